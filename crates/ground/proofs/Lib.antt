@@ -1,0 +1,22 @@
+-- The laws of the definitions in specs.
+pub mod CountLaws
+pub mod OutcomeLaws
+pub mod RefusingLaws
+pub mod FillingLaws
+pub mod SearchingLaws
+pub mod TestLaws
+pub mod ListLaws
+pub mod EveryLaws
+pub mod NumbersLaws
+pub mod PuttingLaws
+pub mod MappingLaws
+pub mod CollectingLaws
+pub mod CombinationLaws
+pub mod RisingLaws
+pub mod OrderLaws
+pub mod LeastLaws
+pub mod ChoiceLaws
+pub mod UniqueLaws
+pub mod UsedLaws
+pub mod WritingLaws
+pub mod ByteLaws

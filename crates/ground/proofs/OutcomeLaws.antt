@@ -1,0 +1,105 @@
+-- Laws of outcomes: what a good or a bad outcome says of the readings it is chained of, and what an answer's verdict
+-- says of the outcome that it shows.
+use mathlib.Core.Path.{_≡_, refl, ap, sym, _∙_, fun-ext}
+use mathlib.Core.List.{List, [], _∷_, _++_, append-assoc}
+use mathlib.Core.Logic.{_⊎_, inl, inr}
+use mathlib.Core.Bool.{Bool, true, false}
+use Prim.Native.Nat.{ℕ, zero, suc, _+_}
+use native.Mathlib.Omega.{arith}
+use lib.ListN.{length}
+use Rattle.ground.specs.Tests.{pick}
+use Rattle.ground.specs.Lists.{Every}
+use Rattle.ground.specs.Outcome.{Outcome, next, andMore, numbered, verdictOf, nextOf, valueOf}
+use Rattle.ground.specs.Outcome.Outcome.{good, bad}
+use Rattle.ground.specs.declared.Verdict.the-variants.{Taken, Refused}
+
+pub never : _≡_ {A = ℕ} 0 1 → ⊥
+never z = omega arith
+
+-- no outcome is both good and bad
+pub good-bad : {A : Type 0} (v : A) (p m q : ℕ) → good v p ≡ bad m q → ⊥
+good-bad v p m q e = let z : _≡_ {A = ℕ} 0 1 = cc in never z
+
+pub taken-is : {A : Type 0} (z : A) (o : Outcome A) → verdictOf o ≡ Taken → o ≡ good (valueOf z o) (nextOf o)
+unfolding verdictOf valueOf nextOf
+taken-is z (good v p) e = refl
+taken-is z (bad n p) e = let z : _≡_ {A = ℕ} 0 1 = cc in absurd (never z)
+
+pub refused-is : {A : Type 0} (o : Outcome A) (m q : ℕ) → verdictOf o ≡ Refused m q → o ≡ bad m q
+unfolding verdictOf
+refused-is (good v p) m q e = let z : _≡_ {A = ℕ} 0 1 = cc in absurd (never z)
+refused-is (bad n p) m q e = cc
+
+-- good after another: so was the other
+pub next-good : {A B : Type 0} (o : Outcome A) (k : A → ℕ → Outcome B) (b : B) (q : ℕ) → next o k ≡ good b q
+    → (a : A) × (p : ℕ) × (o ≡ good a p) × (k a p ≡ good b q)
+next-good (good a p) k b q e = (a, p, refl, e)
+next-good (bad n p) k b q e = absurd (good-bad b q n p (sym e))
+
+-- bad after another: the other was bad, or what came after it
+pub next-bad : {A B : Type 0} (o : Outcome A) (k : A → ℕ → Outcome B) (m q : ℕ) → next o k ≡ bad m q
+    → (o ≡ bad m q) ⊎ ((a : A) × (p : ℕ) × (o ≡ good a p) × (k a p ≡ bad m q))
+next-bad (good a p) k m q e = inr (a, p, refl, e)
+next-bad (bad n p) k m q e = inl cc
+
+pub next-next : {A B C : Type 0} (o : Outcome A) (k : A → ℕ → Outcome B) (l : B → ℕ → Outcome C)
+    → next (next o k) l ≡ next o (λ a p. next (k a p) l)
+next-next (good a p) k l = refl
+next-next (bad n p) k l = refl
+
+-- good where a test decides between good and bad
+pub pick-good : {A : Type 0} (b : Bool) (o : Outcome A) (m q : ℕ) (v : A) (p : ℕ) → pick b o (bad m q) ≡ good v p
+    → (b ≡ true) × (o ≡ good v p)
+pick-good true o m q v p e = (refl, e)
+pick-good false o m q v p e = absurd (good-bad v p m q (sym e))
+
+pub unless-good : {A : Type 0} (b : Bool) (m q : ℕ) (o : Outcome A) (v : A) (p : ℕ) → pick b (bad m q) o ≡ good v p
+    → (b ≡ false) × (o ≡ good v p)
+unless-good true m q o v p e = absurd (good-bad v p m q (sym e))
+unless-good false m q o v p e = (refl, e)
+
+module _ {A : Type 0} where
+  pub more-none : (o : Outcome (List A)) → andMore [] o ≡ o
+  more-none (good vs p) = refl
+  more-none (bad n p) = refl
+
+  pub more-more : (xs ys : List A) (o : Outcome (List A)) → andMore xs (andMore ys o) ≡ andMore (xs ++ ys) o
+  more-more xs ys (good vs p) = ap (λ (l : List A). good l p) (sym (append-assoc xs ys vs))
+  more-more xs ys (bad n p) = refl
+
+  pub more-good : (xs : List A) (o : Outcome (List A)) (vs : List A) (p : ℕ) → andMore xs o ≡ good vs p
+      → (ws : List A) × (o ≡ good ws p) × (vs ≡ xs ++ ws)
+  more-good xs (good ws q) vs p e = (ws, cc, cc)
+  more-good xs (bad m q) vs p e = absurd (good-bad vs p m q (sym e))
+
+  pub numbered-none : (item : ℕ → ℕ → Outcome A) (i at : ℕ) → numbered item i 0 at ≡ good [] at
+  unfolding numbered
+  numbered-none item i at = refl
+
+  pub numbered-cons : (item : ℕ → ℕ → Outcome A) (i n at : ℕ) (v : A) (q : ℕ) (vs : List A) (p : ℕ) → item i at ≡ good v q
+      → numbered item (i + 1) n q ≡ good vs p → numbered item i (suc n) at ≡ good (v ∷ vs) p
+  unfolding numbered
+  numbered-cons item i n at v q vs p e f = rw (e, f)
+
+  -- as many are read as were asked for
+  pub numbered-length : (item : ℕ → ℕ → Outcome A) (i n at : ℕ) (vs : List A) (p : ℕ) → numbered item i n at ≡ good vs p → length vs ≡ n
+  unfolding numbered
+  numbered-length item i zero at vs p e = let h : vs ≡ [] = cc in ap length h
+  numbered-length item i (suc n) at vs p e =
+      let (v, q, here, after) = next-good (item i at) _ vs p e in
+      let (ws, rest, whole) = more-good (v ∷ []) (numbered item (i + 1) n q) vs p after in
+      ap length whole ∙ ap suc (numbered-length item (i + 1) n q ws p rest)
+
+  -- what holds of everything an item reads holds of all that are read
+  pub numbered-every : (P : A → Type 0) (item : ℕ → ℕ → Outcome A) → ((i at : ℕ) (v : A) (p : ℕ) → item i at ≡ good v p → P v)
+      → (i n at : ℕ) (vs : List A) (p : ℕ) → numbered item i n at ≡ good vs p → Every P vs
+  unfolding numbered
+  numbered-every P item h i zero at vs p e = let k : vs ≡ [] = cc in rw k tt
+  numbered-every P item h i (suc n) at vs p e =
+      let (v, q, here, after) = next-good (item i at) _ vs p e in
+      let (ws, rest, whole) = more-good (v ∷ []) (numbered item (i + 1) n q) vs p after in
+      rw whole (h i at v q here, numbered-every P item h (i + 1) n q ws p rest)
+
+  -- items that agree read alike
+  pub numbered-alike : (f g : ℕ → ℕ → Outcome A) → ((i at : ℕ) → f i at ≡ g i at) → (i n at : ℕ) → numbered f i n at ≡ numbered g i n at
+  numbered-alike f g h i n at = ap (λ (item : ℕ → ℕ → Outcome A). numbered item i n at) (fun-ext λ j. fun-ext λ p. h j p)

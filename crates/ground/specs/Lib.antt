@@ -1,0 +1,11 @@
+-- What every definition above is written with: tests, lists, outcomes of reading, numbers as bytes, rising lists, lists
+-- in order, the first of greatest gain.
+pub mod Tests
+pub mod Lists
+pub mod Outcome
+pub mod Bytes
+pub mod Refusing
+pub mod Searching
+pub mod Rising
+pub mod Order
+pub mod Choice
