@@ -1,0 +1,35 @@
+use Rattle.fields.proofs.HeadLaws.{marked-first, marked-second, marked-third}
+use borrow.Author.Needs.{needs}
+use Rattle.fields.proofs.numbers.is_marked.Statement.{statement}
+use Rattle.fields.proofs.numbers.is_marked.Tie as tie
+use Rattle.fields.proofs.numbers.is_marked.Reads as reads
+use Rattle.fields.proofs.numbers.is_marked.Lts as lts
+
+shared-slice-read-if1 : tie.Need-shared-slice-read-if1
+shared-slice-read-if1 c = search needs
+
+returns : tie.Need-returns
+returns c = search (marked-first, needs)
+
+shared-slice-read-if2 : tie.Need-shared-slice-read-if2
+shared-slice-read-if2 c = search needs
+
+returns-2 : tie.Need-returns-2
+returns-2 c = search (marked-second, needs)
+
+shared-slice-read-result : tie.Need-shared-slice-read-result
+shared-slice-read-result c = search needs
+
+returns-3 : tie.Need-returns-3
+returns-3 c = search (marked-third, needs)
+
+pub is-marked-spec : {M : Type 1} → statement M
+is-marked-spec =
+    tie.close
+    (tie.spec
+    shared-slice-read-if1
+    returns
+    shared-slice-read-if2
+    returns-2
+    shared-slice-read-result
+    returns-3)
