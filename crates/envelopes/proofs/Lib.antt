@@ -1,0 +1,18 @@
+-- The laws of the definitions in specs/, file by file under the same names.
+pub mod PlaceLaws
+pub mod RelationLaws
+pub mod ClauseLaws
+pub mod PartLaws
+pub mod SiteLaws
+pub mod KeptLaws
+pub mod EnvelopeLaws
+pub mod PutLaws
+pub mod ReadingLaws
+pub mod WrittenBytes
+pub mod ExactPlaces
+pub mod ExactRelations
+pub mod ExactClauses
+pub mod TidyLaws
+pub mod ExactEnvelope
+pub mod ExactStructs
+pub mod ExactChecks

@@ -1,0 +1,64 @@
+use Prim.Native.Nat.{_-_}
+use Rattle.envelopes.specs.Relations.{columnBytes}
+use Rattle.ground.proofs.WritingLaws.{Writing, writing-start, writing-more, writing-place, writing-done}
+use borrow.Author.Needs.{needs}
+use native.Mathlib.Omega.{arith}
+use Rattle.envelopes.proofs.puts.put_columns.Statement.{statement}
+use Rattle.envelopes.proofs.puts.put_columns.Tie as tie
+use Rattle.envelopes.proofs.puts.put_columns.Reads as reads
+use Rattle.envelopes.proofs.puts.put_columns.Lts as lts
+use Rattle.envelopes.proofs.parts.in_use.Reads as in-use-reads
+use Rattle.envelopes.proofs.puts.put_column.Reads as put-column-reads
+
+abbrev Inv-loop : tie.InvT-loop
+Inv-loop out₀ at count columns end i₀ p₀ out i p = Writing columnBytes 6 columns out₀ at end i p out
+
+abbrev μ-loop : tie.MeasureT-loop
+μ-loop out₀ at count columns end i₀ p₀ out i p = end - i
+
+in-use-requires : tie.Need-in-use-requires Inv-loop μ-loop
+in-use-requires c κs = search needs
+
+loop-holds : tie.Need-loop-holds Inv-loop μ-loop
+loop-holds c = writing-start _ _ _ _ _ _ (omega arith)
+
+mul-column : tie.Need-mul-column Inv-loop μ-loop
+mul-column c = omega arith
+
+array-copy-out-column : tie.Need-array-copy-out-column Inv-loop μ-loop
+array-copy-out-column c = omega arith
+
+put-column-requires : tie.Need-put-column-requires Inv-loop μ-loop
+put-column-requires c κs = search needs
+
+add-i : tie.Need-add-i Inv-loop μ-loop
+add-i c = omega arith
+
+loop-less : tie.Need-loop-less Inv-loop μ-loop
+loop-less c = omega arith
+
+loop-again : tie.Need-loop-again Inv-loop μ-loop
+loop-again c = search (writing-more, needs)
+
+same-length : tie.Need-same-length Inv-loop μ-loop
+same-length c = omega arith
+
+returns : tie.Need-returns Inv-loop μ-loop
+returns c = search (writing-place, writing-done, needs)
+
+pub put-columns-spec : {M : Type 1} → statement M
+put-columns-spec =
+    tie.close
+    (tie.spec
+    Inv-loop
+    μ-loop
+    in-use-requires
+    loop-holds
+    mul-column
+    array-copy-out-column
+    put-column-requires
+    add-i
+    loop-less
+    loop-again
+    same-length
+    returns)
