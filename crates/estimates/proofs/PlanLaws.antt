@@ -1,0 +1,247 @@
+-- The planner with the estimate of 01: every step handed out is legal and stands once, the site holds a relation, the total
+-- is at most that of local operations alone, and it is the sum of what the lines say and of assembly.
+use mathlib.Core.Path.{_≡_, refl, ap, subst}
+use mathlib.Core.Bool.{true, _&&_}
+use mathlib.Core.List.{List, [], _∷_, _++_, map, List·Memᴰ, List·Memᴰ·head, List·Memᴰ·not-nil, Memᴰ·append-right}
+use mathlib.Core.List.{Sublistᴰ, Sublistᴰ·nil-sublist}
+use mathlib.Core.Logic.{_⊎_, inl, inr, _↔_}
+use mathlib.Core.Option.{Option, none, some}
+use Prim.Native.Nat.{ℕ, zero, suc, _+_, _≤_, _<_}
+use native.Mathlib.Nat.{le-refl, le-of-suc-le-suc, not-suc-le-zero}
+use native.Mathlib.Omega.{arith}
+use lib.ListN.{length, getD, take}
+use borrow.Author.Tests.{lt-ltb, eq-eqb}
+use Rattle.ground.specs.Lists.{filter, Every, below, sum}
+use Rattle.ground.specs.Order.{Ordered}
+use Rattle.ground.proofs.TestLaws.{and-left, and-right, and-both}
+use Rattle.ground.proofs.ListLaws.{any-of, filter-mem, filter-from}
+use Rattle.ground.proofs.EveryLaws.{every-of, every-getD}
+use Rattle.ground.proofs.NumbersLaws.{below-mem, below-from}
+use Rattle.ground.proofs.CollectingLaws.{padded-length, padded-take}
+use Rattle.envelopes.specs.Places.{samePlace}
+use Rattle.envelopes.specs.Relations.{pastRelation}
+use Rattle.envelopes.specs.Parts.{sizesOf, relationsOf, relationCount}
+use Rattle.envelopes.specs.Sites.{siteOf, isAt, holds}
+use Rattle.envelopes.specs.Rules.{RelationWithin, Within}
+use Rattle.envelopes.specs.declared.envelope.Envelope.{Envelope}
+use Rattle.papers.specs.Steps.{legal, legalSteps, StepBefore}
+use Rattle.papers.specs.Programs.{noStep}
+use Rattle.papers.specs.declared.steps.Step.{Step}
+use Rattle.papers.proofs.PathLaws.{same-place, place-same}
+use Rattle.papers.proofs.StepLaws.{legal-member, legal-ordered}
+use Rattle.papers.proofs.StepCountLaws.{legal-few}
+use Rattle.estimates.specs.Profile.{afterStep, benefit, localProfile}
+use Rattle.estimates.specs.Costs.{stepCost, assemblyAt}
+use Rattle.estimates.specs.Choice.{Handed, gain, afterAll, costs, total, cheapest, fallback}
+use Rattle.estimates.specs.Plan.{sameStep, kindOf, siteFor, greedySteps, reduced, planned, line, linesOf, estimated, planFor}
+use Rattle.estimates.specs.declared.profiles.Profile.{Profile}
+use Rattle.estimates.specs.declared.costs.Costs.{Costs}
+use Rattle.estimates.specs.declared.plans.Line.{Line}
+use Rattle.estimates.proofs.SublistLaws.{Apart, part-mem, part-length, part-ordered}
+use Rattle.estimates.proofs.ChoiceLaws.{Greedy, greedy-run, greedy-from, greedy-once, greedy-few, greedy-choice, greedy-stops, total-is, CheapestOf, cheapest-is, fallback-is, fallback-total}
+use Rattle.estimates.proofs.DropLaws.{drops-part}
+
+-- steps are the same exactly where they are equal
+pub step-tells : (s t : Step) → (sameStep s t ≡ true) ↔ (s ≡ t)
+unfolding sameStep
+step-tells s t = (equal, same)
+  where
+    both : s .left ≡ t .left → s .right ≡ t .right → s ≡ t
+    both p q = λ i. record { left = p i; right = q i }
+
+    equal : (samePlace (s .left) (t .left) && samePlace (s .right) (t .right)) ≡ true → s ≡ t
+    equal h =
+        both (same-place _ _ (and-left _ _ h)) (same-place _ _ (and-right (samePlace (s .left) (t .left)) _ h))
+
+    same : s ≡ t → (samePlace (s .left) (t .left) && samePlace (s .right) (t .right)) ≡ true
+    same e =
+        subst (λ (u : Step). (samePlace (s .left) (u .left) && samePlace (s .right) (u .right)) ≡ true) e
+        (and-both (place-same (s .left)) (place-same (s .right)))
+
+module _ (k : Costs) (e : Envelope) where
+  -- ---- the steps
+
+  pub plan-greedy : Greedy (kindOf k e) (legalSteps e) (localProfile e) (greedySteps k e)
+  unfolding greedySteps
+  plan-greedy = greedy-run (kindOf k e) step-tells (length (legalSteps e)) (legalSteps e) (localProfile e) (le-refl _)
+
+  -- each of its steps, in the profile that the steps before it leave: no legal step that is not among those gains more, and
+  -- those that gain as much come later by left relation, left column, right relation, right column
+  pub plan-choice : (front : List Step) (s : Step) (rest : List Step) → greedySteps k e ≡ front ++ s ∷ rest
+      → (stepCost k e (afterAll (kindOf k e) (localProfile e) front) s < benefit e (afterAll (kindOf k e) (localProfile e) front) s)
+      × ((t : Step) → legal e t ≡ true → (List·Memᴰ t front → ⊥)
+      → (t ≡ s)
+      ⊎ ((gain (kindOf k e) (afterAll (kindOf k e) (localProfile e) front) t < gain (kindOf k e) (afterAll (kindOf k e) (localProfile e) front) s)
+      ⊎ ((gain (kindOf k e) (afterAll (kindOf k e) (localProfile e) front) t ≡ gain (kindOf k e) (afterAll (kindOf k e) (localProfile e) front) s)
+      × StepBefore s t)))
+  plan-choice front s rest q =
+      let (above, others) =
+      greedy-choice (kindOf k e) step-tells StepBefore (legalSteps e) (localProfile e) front s rest (legal-ordered e) (rw q at plan-greedy) in
+      (above, λ t l out. others t (legal-member e t .0 l) out)
+
+  -- and where it ends no legal step that is not in it brings more than it costs
+  pub plan-stops : (t : Step) → legal e t ≡ true → (List·Memᴰ t (greedySteps k e) → ⊥)
+      → benefit e (afterAll (kindOf k e) (localProfile e) (greedySteps k e)) t ≤ stepCost k e (afterAll (kindOf k e) (localProfile e) (greedySteps k e)) t
+  plan-stops t l out =
+      greedy-stops (kindOf k e) step-tells (legalSteps e) (localProfile e) (greedySteps k e) plan-greedy (legal-member e t .0 l) out
+
+  abbrev home : ℕ
+  home = siteFor k e (localProfile e)
+
+  abbrev totalOf : Handed Step → ℕ
+  totalOf h = total (kindOf k e) (localProfile e) (h .site) (h .steps)
+
+  -- whatever holds of the program after drops, where its total is below, and of no steps at home
+  planned-either : (Q : Handed Step → Type 0) → (totalOf (reduced k e) < assemblyAt k e (localProfile e) home → Q (reduced k e))
+      → Q (record { steps = []; site = home }) → Q (planned k e)
+  unfolding planned
+  planned-either Q f q = go (fallback-is (kindOf k e) (localProfile e) home (reduced k e))
+    where
+      found : Handed Step
+      found = fallback (kindOf k e) (localProfile e) home (reduced k e)
+
+      go : ((found ≡ reduced k e) × (totalOf (reduced k e) < assemblyAt k e (localProfile e) home)) ⊎ (found ≡ record { steps = []; site = home })
+          → Q found
+      go (inl (u, l)) = rw u (f l)
+      go (inr u) = rw u q
+
+  reduced-part : Sublistᴰ (reduced k e .steps) (greedySteps k e)
+  unfolding reduced
+  reduced-part = drops-part (kindOf k e) noStep (localProfile e) site (λ (s : Step). isAt e site (s .left .relation)) (greedySteps k e)
+    where
+      site : ℕ
+      site = siteFor k e (afterAll (kindOf k e) (localProfile e) (greedySteps k e))
+
+  -- of what the greedy program has, in its order
+  pub plan-part : Sublistᴰ (planned k e .steps) (greedySteps k e)
+  plan-part =
+      planned-either (λ (h : Handed Step). Sublistᴰ (h .steps) (greedySteps k e)) (λ _. reduced-part) (Sublistᴰ·nil-sublist (greedySteps k e))
+
+  pub plan-legal : Every (λ (s : Step). legal e s ≡ true) (planned k e .steps)
+  plan-legal =
+      every-of _ (planned k e .steps)
+      (λ s m. legal-member e s .1
+      (greedy-from (kindOf k e) step-tells (legalSteps e) (localProfile e) (greedySteps k e) plan-greedy (part-mem plan-part m)))
+
+  -- none twice
+  pub plan-once : Ordered Apart (planned k e .steps)
+  plan-once =
+      part-ordered Apart plan-part
+      (greedy-once (kindOf k e) step-tells (legalSteps e) (localProfile e) (greedySteps k e) plan-greedy)
+
+  pub plan-few : Within e → length (planned k e .steps) ≤ 156
+  plan-few w =
+      omega (
+        arith,
+        part-length plan-part,
+        greedy-few (kindOf k e) step-tells (legalSteps e) (localProfile e) (greedySteps k e) plan-greedy,
+        legal-few e w,
+      )
+
+  -- ---- the site
+
+  abbrev sites : List ℕ
+  sites = filter (holds e) (below 8)
+
+  site-chosen : (p : Profile) → Within e → List·Memᴰ (siteFor k e p) sites
+  unfolding siteFor siteOf isAt holds
+  site-chosen p w = go (cheapest (kindOf k e) p sites) (cheapest-is (kindOf k e) p sites)
+    where
+      some-relation : 0 < length (relationsOf e)
+      some-relation = omega (arith, w .relations, w .whole-relations)
+
+      low : getD (relationsOf e) 0 pastRelation .site ≤ 7
+      low = every-getD (RelationWithin (sizesOf e)) (relationsOf e) 0 pastRelation some-relation (w .each) .site
+
+      first : List·Memᴰ (siteOf e 0) sites
+      first =
+          filter-mem (holds e) (below-mem (siteOf e 0) 8 (omega (arith, low)))
+          (any-of (isAt e (siteOf e 0)) (below-mem 0 (relationCount e) (omega (arith, w .relations)))
+          (and-both (lt-ltb 0 (relationCount e) (omega (arith, w .relations))) (eq-eqb (siteOf e 0) (siteOf e 0) refl)))
+
+      go : (o : Option ℕ) → CheapestOf (kindOf k e) p sites o → List·Memᴰ (elim o [ none ↦ 0 | some site ↦ site ]) sites
+      go none c = absurd (List·Memᴰ·not-nil (rw c at first))
+      go (some a) c = rw (c .stands) (Memᴰ·append-right (c .before) (List·Memᴰ·head refl))
+
+  reduced-site : Within e → List·Memᴰ (reduced k e .site) sites
+  unfolding reduced
+  reduced-site w = site-chosen (afterAll (kindOf k e) (localProfile e) (greedySteps k e)) w
+
+  plan-site-chosen : Within e → List·Memᴰ (planned k e .site) sites
+  plan-site-chosen w =
+      planned-either (λ (h : Handed Step). List·Memᴰ (h .site) sites) (λ _. reduced-site w) (site-chosen (localProfile e) w)
+
+  pub plan-site : Within e → holds e (planFor k e .site) ≡ true
+  unfolding planFor
+  plan-site w = filter-from (holds e) (below 8) (plan-site-chosen w) .1
+
+  pub plan-site-below : Within e → planFor k e .site < 8
+  unfolding planFor
+  plan-site-below w = below-from 8 (filter-from (holds e) (below 8) (plan-site-chosen w) .0)
+
+  -- ---- the total
+
+  pub plan-total : planFor k e .total ≤ planFor k e .local
+  unfolding planFor estimated planned
+  plan-total = fallback-total (kindOf k e) (localProfile e) (siteFor k e (localProfile e)) (reduced k e)
+
+  -- where steps are handed out it is strictly below
+  pub plan-below : (planned k e .steps ≡ [] → ⊥) → planFor k e .total < planFor k e .local
+  unfolding planFor estimated
+  plan-below =
+      planned-either (λ (h : Handed Step). (h .steps ≡ [] → ⊥) → totalOf h < assemblyAt k e (localProfile e) home)
+      (λ l _. l) (λ q. absurd (q refl))
+
+  -- ---- the lines
+
+  pub lines-length : (p : Profile) (ss : List Step) → length (linesOf k e p ss) ≡ length ss
+  unfolding linesOf
+  lines-length p [] = refl
+  lines-length p (s ∷ ss) = ap suc (lines-length (afterStep e p s) ss)
+
+  -- each step with its benefit and cost in the profile that the steps before it leave
+  pub lines-at : (p : Profile) (ss : List Step) (i : ℕ) (z : Line) → i < length ss
+      → getD (linesOf k e p ss) i z
+      ≡ line (getD ss i noStep) (benefit e (afterAll (kindOf k e) p (take i ss)) (getD ss i noStep))
+      (stepCost k e (afterAll (kindOf k e) p (take i ss)) (getD ss i noStep))
+  unfolding linesOf
+  lines-at p [] i z h = absurd (not-suc-le-zero h)
+  lines-at p (s ∷ ss) zero z h = refl
+  lines-at p (s ∷ ss) (suc i) z h = lines-at (afterStep e p s) ss i z (le-of-suc-le-suc h)
+
+  lines-costs : (p : Profile) (ss : List Step) → map (λ (l : Line). l .cost) (linesOf k e p ss) ≡ costs (kindOf k e) p ss
+  unfolding linesOf
+  lines-costs p [] = refl
+  lines-costs p (s ∷ ss) = ap (λ (l : List ℕ). stepCost k e p s ∷ l) (lines-costs (afterStep e p s) ss)
+
+  module _ (ss : List Step) (site : ℕ) where
+    pub estimated-lines : take (estimated k e ss site .count) (estimated k e ss site .lines) ≡ linesOf k e (localProfile e) ss
+    unfolding estimated
+    estimated-lines =
+        rw (lines-length (localProfile e) ss) at (padded-take 156 (line noStep 0 0) (linesOf k e (localProfile e) ss))
+
+    pub estimated-long : length ss ≤ 156 → length (estimated k e ss site .lines) ≡ 156
+    unfolding estimated
+    estimated-long h = padded-length 156 (line noStep 0 0) (linesOf k e (localProfile e) ss) (rw (lines-length (localProfile e) ss) h)
+
+    whole : estimated k e ss site .total ≡ sum (costs (kindOf k e) (localProfile e) ss) + estimated k e ss site .assembly
+    unfolding estimated
+    whole = total-is (kindOf k e) (localProfile e) site ss
+
+    pub estimated-total : estimated k e ss site .total
+        ≡ sum (map (λ (l : Line). l .cost) (take (estimated k e ss site .count) (estimated k e ss site .lines))) + estimated k e ss site .assembly
+    estimated-total = rw (estimated-lines, lines-costs (localProfile e) ss) whole
+
+  -- the plan is the estimate of what is handed out
+  pub plan-lines : take (planFor k e .count) (planFor k e .lines) ≡ linesOf k e (localProfile e) (planned k e .steps)
+  unfolding planFor
+  plan-lines = estimated-lines (planned k e .steps) (planned k e .site)
+
+  pub plan-long : Within e → length (planFor k e .lines) ≡ 156
+  unfolding planFor
+  plan-long w = estimated-long (planned k e .steps) (planned k e .site) (plan-few w)
+
+  pub plan-sum : planFor k e .total
+      ≡ sum (map (λ (l : Line). l .cost) (take (planFor k e .count) (planFor k e .lines))) + planFor k e .assembly
+  unfolding planFor
+  plan-sum = estimated-total (planned k e .steps) (planned k e .site)

@@ -1,0 +1,5 @@
+// Estimates and the planner: what a step is expected to do and cost, and which steps to take.
+pub mod costs;
+mod division;
+pub mod plans;
+pub mod profiles;

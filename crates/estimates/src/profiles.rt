@@ -1,0 +1,241 @@
+// A profile: the estimated rows of each relation and the distinct count of each column. And what the envelope says of a
+// column; whatever struct comes in has an answer.
+use envelopes::envelope::Envelope;
+use envelopes::places::Place;
+use envelopes::relations::Column;
+use envelopes::relations::Relation;
+ghost use mathlib.Core.Path.{_≡_};
+ghost use mathlib.Core.List.{map};
+ghost use Prim.Native.Nat.{ℕ, _/_, _%_, _≤_, _<_};
+ghost use lib.ListN.{getD, set};
+ghost use Rattle.ground.specs.Lists.{below};
+ghost use Rattle.envelopes.specs.Relations.{noColumn, pastRelation};
+ghost use Rattle.envelopes.specs.Places.{place};
+ghost use Rattle.envelopes.specs.Parts.{relationsOf};
+ghost use Rattle.estimates.specs.Profile.{columnOf, domainSize, widthOf, rowsOf, countOf, given, shrunk};
+
+// Relation r has rows[r]; its column c has counts[8 * r + c].
+pub struct Profile {
+    pub rows: [u64; 8],
+    pub counts: [u64; 64],
+}
+
+fn no_column() -> Column
+    ensures { λ r. ⌜ r ≡ noColumn ⌝ }
+{
+    Column {
+        domain: 0,
+        width: 0,
+        distinct: 0,
+    }
+}
+
+fn column_in(relations: [Relation; 8], place: Place) -> Column
+    ensures { λ r. ⌜ r ≡ getD (getD relations (place .relation) pastRelation .columns) (place .column) noColumn ⌝ }
+{
+    let i = place.relation as usize;
+    if 8 <= i {
+        return no_column();
+    }
+    let relation = relations[i];
+    let columns = relation.columns;
+    envelopes::relations::column_at(columns, place.column as usize)
+}
+
+pub(crate) fn column_of(envelope: Envelope, place: Place) -> Column
+    ensures { λ r. ⌜ r ≡ columnOf envelope place ⌝ }
+{
+    let relations = envelope.relations;
+    if place.relation < envelope.relation_count {
+        column_in(relations, place)
+    } else {
+        no_column()
+    }
+}
+
+pub(crate) fn domain_size(envelope: Envelope, place: Place) -> u32
+    ensures { λ r. ⌜ r ≡ domainSize envelope place ⌝ }
+{
+    let sizes = envelope.sizes;
+    let column = column_of(envelope, place);
+    let i = column.domain as usize;
+    if envelopes::parts::in_use(16, envelope.domain_count) <= i {
+        return 0;
+    }
+    sizes[i]
+}
+
+pub(crate) fn width_of(envelope: Envelope, relation: u8) -> u64
+    ensures { λ r. ⌜ r ≡ widthOf envelope relation ⌝ }
+{
+    let kept = envelopes::kept::kept_columns(envelope, relation);
+    let numbers = kept.numbers;
+    let end = kept.count as usize;
+    let mut total: u64 = 0;
+    let mut i: usize = 0;
+    while i < end {
+        let place = Place {
+            relation: relation,
+            column: numbers[i],
+        };
+        let column = column_of(envelope, place);
+        total += column.width as u64;
+        i += 1;
+    }
+    total
+}
+
+fn rows_in(relations: [Relation; 8], i: usize) -> u64
+    ensures { λ r. ⌜ r ≡ getD relations i pastRelation .rows ⌝ }
+{
+    if 8 <= i {
+        return 0;
+    }
+    let relation = relations[i];
+    relation.rows as u64
+}
+
+// The rows of a relation by the envelope; 0 where it has no such relation.
+fn given_rows(envelope: Envelope, relation: u8) -> u64
+    ensures { λ r. ⌜ r ≡ getD (relationsOf envelope) relation pastRelation .rows ⌝ }
+{
+    let relations = envelope.relations;
+    if relation < envelope.relation_count {
+        rows_in(relations, relation as usize)
+    } else {
+        0
+    }
+}
+
+// The distinct count of a column by the envelope, in the order of a profile.
+fn given_count(envelope: Envelope, k: usize) -> u64
+    requires { ⌜ k < 64 ⌝ }
+    ensures { λ r. ⌜ r ≡ columnOf envelope (place (k / 8) (k % 8)) .distinct ⌝ }
+{
+    let place = Place {
+        relation: (k / 8) as u8,
+        column: (k % 8) as u8,
+    };
+    let column = column_of(envelope, place);
+    column.distinct as u64
+}
+
+fn all_rows(envelope: Envelope) -> [u64; 8]
+    ensures { λ r. ⌜ r ≡ given envelope .rows ⌝ }
+{
+    let mut out = [0u64; 8];
+    let mut relation: u8 = 0;
+    while relation < 8 {
+        let slot = relation as usize;
+        out[slot] = given_rows(envelope, relation);
+        relation += 1;
+    }
+    out
+}
+
+fn all_counts(envelope: Envelope) -> [u64; 64]
+    ensures { λ r. ⌜ r ≡ given envelope .counts ⌝ }
+{
+    let mut out = [0u64; 64];
+    let mut k: usize = 0;
+    while k < 64 {
+        out[k] = given_count(envelope, k);
+        k += 1;
+    }
+    out
+}
+
+// The envelope's own estimates.
+pub(crate) fn given(envelope: Envelope) -> Profile
+    ensures { λ r. ⌜ r ≡ given envelope ⌝ }
+{
+    let rows = all_rows(envelope);
+    let counts = all_counts(envelope);
+    Profile {
+        rows: rows,
+        counts: counts,
+    }
+}
+
+// The widths of all relations.
+pub(crate) fn widths_of(envelope: Envelope) -> [u64; 8]
+    ensures { λ r. ⌜ r ≡ map (widthOf envelope) (below 8) ⌝ }
+{
+    let mut out = [0u64; 8];
+    let mut relation: u8 = 0;
+    while relation < 8 {
+        let slot = relation as usize;
+        out[slot] = width_of(envelope, relation);
+        relation += 1;
+    }
+    out
+}
+
+// The rows of a relation; 0 where there is no such relation.
+pub(crate) fn rows_at(profile: Profile, relation: u8) -> u64
+    ensures { λ r. ⌜ r ≡ rowsOf profile relation ⌝ }
+{
+    let rows = profile.rows;
+    let i = relation as usize;
+    if 8 <= i {
+        return 0;
+    }
+    rows[i]
+}
+
+// The distinct count of a column; 0 where there is no such place in a profile.
+pub(crate) fn count_at(profile: Profile, place: Place) -> u64
+    ensures { λ r. ⌜ r ≡ countOf profile place ⌝ }
+{
+    let counts = profile.counts;
+    let i = 8 * (place.relation as usize) + place.column as usize;
+    if 64 <= i {
+        return 0;
+    }
+    counts[i]
+}
+
+// The count in place k of a profile that is shrunk.
+fn count_left(profile: Profile, place: Place, rows: u64, count: u64, k: usize) -> u64
+    requires { ⌜ ((k < 64) × (rows ≤ 1000000)) × ((i : ℕ) → getD (profile .counts) i 0 ≤ 1000000) ⌝ }
+    ensures { λ r. ⌜ r ≡ getD (shrunk profile place rows count .counts) k 0 ⌝ }
+{
+    let counts = profile.counts;
+    if k / 8 != place.relation as usize {
+        return counts[k];
+    }
+    if k % 8 == place.column as usize {
+        return count;
+    }
+    let before = rows_at(profile, place.relation);
+    crate::division::short(counts[k], before, rows)
+}
+
+// A relation with other rows, one of its columns with another count; each other column of it by Y.
+fn shrunk(profile: Profile, place: Place, rows: u64, count: u64) -> Profile
+    requires { ⌜ (rows ≤ 1000000) × ((i : ℕ) → getD (profile .counts) i 0 ≤ 1000000) ⌝ }
+    ensures { λ r. ⌜ r ≡ shrunk profile place rows count ⌝ }
+{
+    let mut out = [0u64; 64];
+    let mut k: usize = 0;
+    while k < 64 {
+        out[k] = count_left(profile, place, rows, count, k);
+        k += 1;
+    }
+    let all = profile.rows;
+    Profile {
+        rows: with_rows(all, place.relation, rows),
+        counts: out,
+    }
+}
+
+fn with_rows(all: [u64; 8], relation: u8, rows: u64) -> [u64; 8]
+    ensures { λ r. ⌜ r ≡ set all relation rows ⌝ }
+{
+    let mut out = all;
+    let i = relation as usize;
+    if i < 8 {
+        out[i] = rows;
+    }
+    out
+}
