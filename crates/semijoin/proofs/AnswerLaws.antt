@@ -1,0 +1,132 @@
+-- Marks that keep every row which stands in a combination that meets all clauses leave the answer as it is, and its order:
+-- no such combination is lost, and combinations come in the same order from fewer rows.
+use mathlib.Core.Path.{_≡_, refl, sym, ap, _∙_}
+use mathlib.Core.Bool.{Bool, true, false}
+use mathlib.Core.List.{List, [], _∷_, map, map-map, List·Memᴰ, List·Memᴰ·cases-cons}
+use mathlib.Core.Logic.{_⊎_, inl, inr}
+use Prim.Native.Nat.{ℕ, suc, _<_, zero-le, suc-le-suc}
+use lib.ListN.{length, getD, length-map}
+use Rattle.ground.specs.Lists.{consIf, filter, all, combinations, below}
+use Rattle.ground.proofs.ListLaws.{all-index, filter-map, filter-implied, map-mem, map-alike, getD-map}
+use Rattle.ground.proofs.NumbersLaws.{below-length, below-getD}
+use Rattle.ground.proofs.CombinationLaws.{combinations-from, combinations-length, combinations-filters, combinations-map}
+use Rattle.envelopes.specs.Parts.{relationCount, clausesOf, targetsOf}
+use Rattle.envelopes.specs.declared.envelope.Envelope.{Envelope}
+use Rattle.papers.specs.Meaning.{Row, Table, meetsAll, targetRow, tablesOf, answerOn, answerRows}
+use Rattle.semijoin.specs.Offsets.{countIn, rowsAt}
+use Rattle.semijoin.specs.Marks.{isKept, keptOf}
+use Rattle.semijoin.specs.Promise.{rowOf, Needed}
+use Rattle.semijoin.proofs.OffsetLaws.{rowsAt-length, tables-are}
+
+-- ---- a table's rows with their marks beside them; a row without one has 0
+
+record Marked : Type 0 where
+  mark : ℕ
+  row : Row
+
+abbrev marked : ℕ → Row → Marked
+marked m row = record { mark = m; row = row }
+
+abbrev isOn : Marked → Bool
+isOn x = isKept (x .mark)
+
+abbrev rowIn : Marked → Row
+rowIn x = x .row
+
+abbrev beside : List ℕ → Table → List Marked
+beside ms [] = []
+beside [] (row ∷ t) = marked 0 row ∷ beside [] t
+beside (m ∷ ms) (row ∷ t) = marked m row ∷ beside ms t
+
+kept-beside : (ms : List ℕ) (t : Table) → keptOf ms t ≡ map rowIn (filter isOn (beside ms t))
+unfolding keptOf
+kept-beside [] [] = refl
+kept-beside (m ∷ ms) [] = refl
+kept-beside [] (row ∷ t) = kept-beside [] t
+kept-beside (m ∷ ms) (row ∷ t) = go (isKept m) (kept-beside ms t)
+  where
+    go : (b : Bool) → keptOf ms t ≡ map rowIn (filter isOn (beside ms t))
+        → consIf b row (keptOf ms t) ≡ map rowIn (consIf b (marked m row) (filter isOn (beside ms t)))
+    go true e = rw e
+    go false e = e
+
+rows-beside : (ms : List ℕ) (t : Table) → map rowIn (beside ms t) ≡ t
+rows-beside ms [] = refl
+rows-beside [] (row ∷ t) = rw (rows-beside [] t)
+rows-beside (m ∷ ms) (row ∷ t) = rw (rows-beside ms t)
+
+-- one of them is the row and the mark at some place
+beside-from : {x : Marked} (ms : List ℕ) (t : Table) → List·Memᴰ x (beside ms t)
+    → (i : ℕ) × (i < length t) × (x ≡ marked (getD ms i 0) (getD t i []))
+beside-from ms [] n = elim n [ ]
+beside-from {x} [] (row ∷ t) n = go (List·Memᴰ·cases-cons n) (beside-from [] t)
+  where
+    go : (x ≡ marked 0 row) ⊎ List·Memᴰ x (beside [] t) → (List·Memᴰ x (beside [] t) → (i : ℕ) × (i < length t) × (x ≡ marked 0 (getD t i [])))
+        → (i : ℕ) × (i < suc (length t)) × (x ≡ marked 0 (getD (row ∷ t) i []))
+    go (inl e) ih = (0, suc-le-suc zero-le, e)
+    go (inr k) ih = let (i, h, e) = ih k in (suc i, suc-le-suc h, e)
+beside-from {x} (m ∷ ms) (row ∷ t) n = go (List·Memᴰ·cases-cons n) (beside-from ms t)
+  where
+    go : (x ≡ marked m row) ⊎ List·Memᴰ x (beside ms t)
+        → (List·Memᴰ x (beside ms t) → (i : ℕ) × (i < length t) × (x ≡ marked (getD ms i 0) (getD t i [])))
+        → (i : ℕ) × (i < suc (length t)) × (x ≡ marked (getD (m ∷ ms) i 0) (getD (row ∷ t) i []))
+    go (inl e) ih = (0, suc-le-suc zero-le, e)
+    go (inr k) ih = let (i, h, e) = ih k in (suc i, suc-le-suc h, e)
+
+-- ---- the same combinations meet all clauses
+
+module _ (e : Envelope) (whole : List ℕ) (marks : ℕ → List ℕ)
+    (covers : (r i : ℕ) → i < countIn e whole r → Needed e whole r (rowOf e whole r i) → isKept (getD (marks r) i 0) ≡ true) where
+  abbrev pub tablesBy : List Table
+  tablesBy = map (λ r. keptOf (marks r) (rowsAt e whole r)) (below (relationCount e))
+
+  abbrev pairs : ℕ → List Marked
+  pairs r = beside (marks r) (rowsAt e whole r)
+
+  abbrev paired : List (List Marked)
+  paired = map pairs (below (relationCount e))
+
+  tables-paired : tablesBy ≡ map (map rowIn) (map (filter isOn) paired)
+  tables-paired =
+      map-alike _ (λ r. map rowIn (filter isOn (pairs r))) (below (relationCount e)) (λ r m. kept-beside (marks r) (rowsAt e whole r))
+      ∙ sym (ap (map (map rowIn)) (map-map (filter isOn) pairs (below (relationCount e)))
+      ∙ map-map (map rowIn) (λ r. filter isOn (pairs r)) (below (relationCount e)))
+
+  plain : map (map rowIn) (combinations paired) ≡ combinations (tablesOf e whole)
+  plain =
+      sym (combinations-map rowIn paired)
+      ∙ ap combinations
+      (map-map (map rowIn) pairs (below (relationCount e))
+      ∙ map-alike _ (rowsAt e whole) (below (relationCount e)) (λ r m. rows-beside (marks r) (rowsAt e whole r))
+      ∙ sym (tables-are e whole))
+
+  paired-at : (r : ℕ) → r < length paired → getD paired r [] ≡ pairs r
+  paired-at r h =
+      let few : r < length (below (relationCount e)) = rw (length-map (below (relationCount e)) pairs) at h in
+      getD-map pairs (below (relationCount e)) r 0 [] few
+      ∙ ap pairs (below-getD (relationCount e) r 0 (rw (below-length (relationCount e)) at few))
+
+  -- a combination that meets all clauses has kept rows only
+  only-kept : (c : List Marked) → List·Memᴰ c (combinations paired) → meetsAll (clausesOf e) (map rowIn c) ≡ true → all isOn c ≡ true
+  only-kept c n met = all-index isOn (marked 0 []) c λ r l.
+      let long : r < length paired = rw (combinations-length paired n) at l in
+      let (i, k, w) = beside-from (marks r) (rowsAt e whole r) (rw (paired-at r long) at (combinations-from (marked 0 []) paired r long n)) in
+      kept r i l k w
+    where
+      kept : (r i : ℕ) → r < length c → i < length (rowsAt e whole r) → getD c r (marked 0 []) ≡ marked (getD (marks r) i 0) (rowOf e whole r i)
+          → isOn (getD c r (marked 0 [])) ≡ true
+      kept r i l k w =
+          let row : getD (map rowIn c) r [] ≡ rowOf e whole r i = getD-map rowIn c r (marked 0 []) [] l ∙ ap rowIn w in
+          ap isOn w ∙ covers r i (rw (rowsAt-length e whole r) at k) (map rowIn c, rw plain at (map-mem (map rowIn) n), met, row)
+
+  pub met-alike : filter (meetsAll (clausesOf e)) (combinations tablesBy) ≡ filter (meetsAll (clausesOf e)) (combinations (tablesOf e whole))
+  met-alike =
+      rw (tables-paired, combinations-map rowIn, combinations-filters, filter-map)
+      (ap (map (map rowIn))
+      (filter-implied (λ (c : List Marked). meetsAll (clausesOf e) (map rowIn c)) (all isOn) (combinations paired) only-kept)
+      ∙ sym (filter-map (meetsAll (clausesOf e)) (map rowIn) (combinations paired))
+      ∙ ap (filter (meetsAll (clausesOf e))) plain)
+
+  pub answer-covered : answerOn (clausesOf e) (targetsOf e) tablesBy ≡ answerRows e whole
+  unfolding answerOn answerRows
+  answer-covered = ap (map (targetRow (targetsOf e))) met-alike

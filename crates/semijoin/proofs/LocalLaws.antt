@@ -1,0 +1,127 @@
+-- Local operations: a row of a combination that meets all clauses passes them, and opening marks the rows that pass.
+use mathlib.Core.Path.{_≡_, refl, sym, ap, _∙_}
+use mathlib.Core.Bool.{Bool, true, false, _&&_}
+use mathlib.Core.List.{List, [], _∷_, _++_, append-assoc}
+use Prim.Native.Nat.{ℕ, zero, suc, _+_, _-_, _≤_, _<_}
+use native.Mathlib.Nat.{zero-add}
+use native.Mathlib.Numerals.{add-one}
+use native.Mathlib.Omega.{arith}
+use lib.ListN.{length, getD, take, drop, length-map, length-append}
+use lib.Seq.{sets, sets-eq, take-at, drop-at}
+use lib.Dec.{eqb}
+use borrow.Author.Tests.{eq-eqb}
+use Rattle.ground.specs.Tests.{pick}
+use Rattle.ground.specs.Lists.{filter, each, below, numbersFrom}
+use Rattle.ground.proofs.CountLaws.{left-suc}
+use Rattle.ground.proofs.TestLaws.{and-both}
+use Rattle.ground.proofs.ListLaws.{all-of, each-append, getD-map}
+use Rattle.ground.proofs.NumbersLaws.{numbers-append, each-below}
+use Rattle.ground.proofs.PuttingLaws.{sets-behind}
+use Rattle.envelopes.specs.Parts.{relationCount}
+use Rattle.envelopes.specs.declared.envelope.Envelope.{Envelope}
+use Rattle.papers.specs.Meaning.{Row, wordIn}
+use Rattle.papers.specs.Implied.{impliedSelections, impliedEqualities}
+use Rattle.papers.specs.declared.implied.Selected.{Selected}
+use Rattle.papers.specs.declared.implied.Equal.{Equal}
+use Rattle.papers.proofs.ImpliedLaws.{selection-met, equality-met}
+use Rattle.semijoin.specs.Offsets.{countIn, rowsBefore, firstMark, rowCount, rowsAt, marksAt}
+use Rattle.semijoin.specs.Local.{passes, openedAt, opened}
+use Rattle.semijoin.specs.Marks.{keptOf, keptRows, isKept}
+use Rattle.semijoin.specs.Promise.{rowOf, keptAt, Needed}
+use Rattle.semijoin.proofs.OffsetLaws.{rowsAt-length, rows-none, rows-more}
+use Rattle.semijoin.proofs.MarkLaws.{kept-test}
+
+-- a row that the answer needs passes
+pub needed-passes : (e : Envelope) (whole : List ℕ) (r : ℕ) (row : Row) → Needed e whole r row → passes e r row ≡ true
+unfolding passes
+needed-passes e whole r row (rows, m, met, w) =
+    rw (← w)
+    (and-both
+    (all-of (λ (s : Selected). eqb (wordIn (getD rows r []) (s .column)) (s .value)) (impliedSelections e r)
+    λ s n. eq-eqb _ _ (selection-met e rows met r (s .column) (s .value) n))
+    (all-of (λ (s : Equal). eqb (wordIn (getD rows r []) (s .left)) (wordIn (getD rows r []) (s .right))) (impliedEqualities e r)
+    λ s n. eq-eqb _ _ (equality-met e rows met r (s .left) (s .right) n)))
+
+kept-bit : (b : Bool) → isKept (pick b 1 0) ≡ b
+kept-bit true = refl
+kept-bit false = refl
+
+-- the numbers below n, cut at r
+below-split : (n r : ℕ) → r < n → below n ≡ below r ++ (r ∷ numbersFrom (r + 1) (n - (r + 1)))
+unfolding numbersFrom
+below-split n r h =
+    let whole : r + (n - r) ≡ n = omega arith in
+    ap below (sym whole) ∙ numbers-append 0 r (n - r) ∙ rw (zero-add r, left-suc n r h)
+
+module _ (e : Envelope) (words : List ℕ) where
+  opened-at-length : (here : Bool) (r : ℕ) → length (openedAt e words here r) ≡ countIn e words r
+  unfolding openedAt
+  opened-at-length here r = length-map (rowsAt e words r) (λ (row : Row). pick (here && passes e r row) 1 0) ∙ rowsAt-length e words r
+
+  module _ (here : ℕ → Bool) where
+    abbrev marksOf : ℕ → List ℕ
+    marksOf r = openedAt e words (here r) r
+
+    before : (n : ℕ) → length (each marksOf (below n)) ≡ rowsBefore e words n
+    unfolding numbersFrom
+    before zero = sym (rows-none e words)
+    before (suc n) = rw (add-one n) at more (before n)
+      where
+        more : length (each marksOf (below n)) ≡ rowsBefore e words n → length (each marksOf (below (n + 1))) ≡ rowsBefore e words (n + 1)
+        more ih =
+            ap length (each-below marksOf n)
+            ∙ length-append (each marksOf (below n)) (marksOf n)
+            ∙ rw (ih, opened-at-length (here n) n) (sym (rows-more e words n))
+
+    abbrev later : ℕ → List ℕ
+    later r = each marksOf (numbersFrom (r + 1) (relationCount e - (r + 1)))
+
+    -- all marks, cut around those of relation r
+    opened-parts : (r : ℕ) → r < relationCount e → (rest : List ℕ)
+        → opened e words here ++ rest ≡ each marksOf (below r) ++ (marksOf r ++ (later r ++ rest))
+    unfolding opened
+    opened-parts r h rest =
+        ap (λ (l : List ℕ). each marksOf l ++ rest) (below-split (relationCount e) r h)
+        ∙ ap (λ (l : List ℕ). l ++ rest) (each-append marksOf (below r) (r ∷ numbersFrom (r + 1) (relationCount e - (r + 1))))
+        ∙ append-assoc (each marksOf (below r)) (marksOf r ++ later r) rest
+        ∙ ap (λ (l : List ℕ). each marksOf (below r) ++ l) (append-assoc (marksOf r) (later r) rest)
+
+    pub opened-length : length (opened e words here) ≡ rowCount e words
+    unfolding opened
+    opened-length = before (relationCount e)
+
+    module _ (marks : List ℕ) (fits : rowCount e words ≤ length marks) where
+      room : 0 + length (opened e words here) ≤ length marks
+      room = omega (arith, opened-length)
+
+      pub opened-own : (r : ℕ) → r < relationCount e → marksAt e words r (sets marks 0 (opened e words here)) ≡ openedAt e words (here r) r
+      unfolding marksAt
+      opened-own r h =
+          ap (λ (l : List ℕ). take (countIn e words r) (drop (firstMark e words r) l))
+          (sets-eq (opened e words here) marks 0 room ∙ opened-parts r h rest)
+          ∙ ap (take (countIn e words r)) (drop-at (each marksOf (below r)) (marksOf r ++ (later r ++ rest)) (firstMark e words r) (before r))
+          ∙ take-at (marksOf r) (later r ++ rest) (countIn e words r) (opened-at-length (here r) r)
+        where
+          rest : List ℕ
+          rest = drop (0 + length (opened e words here)) marks
+
+      pub opened-past : drop (rowCount e words) (sets marks 0 (opened e words here)) ≡ drop (rowCount e words) marks
+      opened-past =
+          let end : 0 + length (opened e words here) ≡ rowCount e words = omega (arith, opened-length) in
+          rw end at (sets-behind marks 0 (opened e words here) room)
+
+      -- the kept rows of a relation that is here are those that pass
+      pub opened-rows : (r : ℕ) → r < relationCount e
+          → keptRows e words (sets marks 0 (opened e words here)) r ≡ filter (λ (row : Row). here r && passes e r row) (rowsAt e words r)
+      unfolding keptRows openedAt
+      opened-rows r h =
+          ap (λ (ms : List ℕ). keptOf ms (rowsAt e words r)) (opened-own r h)
+          ∙ kept-test (λ (row : Row). here r && passes e r row) (rowsAt e words r)
+
+      pub opened-kept : (r i : ℕ) → r < relationCount e → i < countIn e words r
+          → keptAt e words (sets marks 0 (opened e words here)) r i ≡ (here r && passes e r (rowOf e words r i))
+      unfolding openedAt
+      opened-kept r i h k =
+          ap (λ (ms : List ℕ). isKept (getD ms i 0)) (opened-own r h)
+          ∙ ap isKept (getD-map (λ (row : Row). pick (here r && passes e r row) 1 0) (rowsAt e words r) i [] 0 (rw (rowsAt-length e words r) k))
+          ∙ kept-bit (here r && passes e r (rowOf e words r i))

@@ -1,0 +1,31 @@
+-- Where one relation lies, as one value: its columns and rows, its first word and its first mark. And what such a value
+-- says of words and marks: its rows, its part of the marks, the kept values of a column, and what reducing it leaves.
+use Prim.Native.Nat.{ℕ}
+use mathlib.Core.List.{List, map}
+use lib.ListN.{take, drop}
+use lib.Seq.{sets}
+use Rattle.envelopes.specs.Parts.{columnsIn}
+use Rattle.envelopes.specs.declared.envelope.Envelope.{Envelope}
+use Rattle.papers.specs.Meaning.{Row, Table, wordIn, rowsIn}
+use Rattle.semijoin.specs.Offsets.{countIn, firstWord, firstMark}
+use Rattle.semijoin.specs.Marks.{keptOf, sieved, removedOf}
+use Rattle.semijoin.specs.declared.offsets.Extent.{Extent}
+
+abbrev pub extentOf : Envelope → List ℕ → ℕ → Extent
+extentOf e words r =
+    record { columns = columnsIn e r; rows = countIn e words r; word = firstWord e words r; mark = firstMark e words r }
+
+unfoldable pub rowsOver : Extent → List ℕ → Table
+rowsOver x words = rowsIn (x .columns) (x .rows) (drop (x .word) words)
+
+unfoldable pub marksOver : Extent → List ℕ → List ℕ
+marksOver x marks = take (x .rows) (drop (x .mark) marks)
+
+unfoldable pub valuesOver : Extent → ℕ → List ℕ → List ℕ → List ℕ
+valuesOver x c words marks = map (λ (row : Row). wordIn row c) (keptOf (marksOver x marks) (rowsOver x words))
+
+unfoldable pub sievedOver : Extent → ℕ → List ℕ → List ℕ → List ℕ → List ℕ
+sievedOver x c words values marks = sets marks (x .mark) (sieved values c (marksOver x marks) (rowsOver x words))
+
+unfoldable pub removedOver : Extent → ℕ → List ℕ → List ℕ → List ℕ → ℕ
+removedOver x c words values marks = removedOf values c (marksOver x marks) (rowsOver x words)

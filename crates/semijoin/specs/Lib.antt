@@ -1,0 +1,9 @@
+-- Tables, marks and the semi-join, as 01's "Papers on the wire" (tables), "Meaning" and "Station ends" (marks, opening, the
+-- one-place run) have them. Offsets has where a relation's words and marks lie; nothing else knows.
+pub mod Offsets
+pub mod Shape
+pub mod Local
+pub mod Marks
+pub mod Extents
+pub mod Run
+pub mod Promise

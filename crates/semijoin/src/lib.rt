@@ -1,0 +1,5 @@
+// Tables and marks: the shape of tables, local operations, one step, the values of a column, and the one-place run.
+pub mod marks;
+pub mod offsets;
+mod rows;
+pub mod shape;

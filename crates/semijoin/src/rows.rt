@@ -1,0 +1,40 @@
+// One row of a relation that lies in words and marks: its word in a column, its mark, and what a step does to the mark.
+use crate::offsets::Extent;
+ghost use mathlib.Core.Path.{_≡_};
+ghost use mathlib.Core.Bool.{Bool};
+ghost use mathlib.Core.List.{[]};
+ghost use Prim.Native.Nat.{_+_, _*_, _<_, _≤_};
+ghost use lib.ListN.{length, getD, set};
+ghost use Rattle.ground.specs.Tests.{pick};
+ghost use Rattle.papers.specs.Meaning.{wordIn};
+ghost use Rattle.semijoin.specs.Marks.{isKept};
+ghost use Rattle.semijoin.specs.Extents.{rowsOver, marksOver};
+
+pub(crate) fn word_in(tables: &[u32], extent: Extent, row: usize, column: u8) -> u32
+    requires { ⌜ (row < extent .rows) × (column < extent .columns) × (extent .word + extent .rows * extent .columns ≤ length (now tables)) ⌝ }
+    ensures { λ r. ⌜ r ≡ wordIn (getD (rowsOver extent (now (tables .entry))) row []) column ⌝ }
+{
+    tables[extent.word + row * extent.columns + column as usize]
+}
+
+pub(crate) fn kept_at(marks: &[u8], extent: Extent, row: usize) -> bool
+    requires { ⌜ (row < extent .rows) × (extent .mark + extent .rows ≤ length (now marks)) ⌝ }
+    ensures { λ r. ⌜ r ≡ isKept (getD (marksOver extent (now (marks .entry))) row 0) ⌝ }
+{
+    marks[extent.mark + row] != 0
+}
+
+// The mark of a row that stays is as it was, that of another is 0; how many rows that removes.
+pub(crate) fn keep_if(marks: &mut [u8], at: usize, stays: bool) -> usize
+    requires { ⌜ at < length (now marks) ⌝ }
+    ensures { λ r. ⌜ (r ≡ pick stays 0 (pick (isKept (getD (now (marks .entry)) at 0)) 1 0)) × (now (marks .exit) ≡ set (now (marks .entry)) at (pick stays (getD (now (marks .entry)) at 0) 0)) × (r ≤ 1) ⌝ }
+{
+    if stays {
+        return 0;
+    }
+    if marks[at] == 0 {
+        return 0;
+    }
+    marks[at] = 0;
+    1
+}
