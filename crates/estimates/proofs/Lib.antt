@@ -11,3 +11,8 @@ pub mod PlanLaws
 pub mod DivisionCodeLaws
 pub mod TableCodeLaws
 pub mod ProfileCodeLaws
+pub mod StepCodeLaws
+pub mod CostCodeLaws
+pub mod BoundCodeLaws
+pub mod LocalCodeLaws
+pub mod PlanCodeLaws

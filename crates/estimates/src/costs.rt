@@ -1,6 +1,110 @@
 // What a transfer costs: its size times the price from the sender's site to the receiver's.
+use crate::profiles::Profile;
+use envelopes::envelope::Envelope;
+use papers::steps::Step;
+ghost use mathlib.Core.Path.{_≡_};
+ghost use Prim.Native.Nat.{ℕ, _+_, _*_, _/_, _%_, _≤_};
+ghost use lib.Dec.{eqb};
+ghost use lib.ListN.{getD};
+ghost use Rattle.ground.specs.Tests.{pick};
+ghost use Rattle.envelopes.specs.Sites.{siteOf};
+ghost use Rattle.estimates.specs.Profile.{widthOf, rowsOf, rowsAfter, benefit};
+ghost use Rattle.estimates.specs.Costs.{plainCosts, priced, stepCost, assemblyAt};
 
 // The price from site a to site b is prices[8 * a + b].
 pub struct Costs {
     pub prices: [u64; 64],
+}
+
+fn plain_price(k: usize) -> u64
+    ensures { λ r. ⌜ r ≡ pick (eqb (k / 8) (k % 8)) 0 1 ⌝ }
+{
+    if k / 8 == k % 8 { 0 } else { 1 }
+}
+
+// One price between any two sites, none within a site.
+pub fn plain_costs() -> Costs
+    ensures { λ r. ⌜ r ≡ plainCosts ⌝ }
+{
+    let mut prices = [0u64; 64];
+    let mut k: usize = 0;
+    while k < 64 {
+        prices[k] = plain_price(k);
+        k += 1;
+    }
+    Costs { prices: prices }
+}
+
+// The price between two sites; 0 where there is no such place in the prices.
+fn price_at(costs: Costs, sender: u8, receiver: u8) -> u64
+    ensures { λ r. ⌜ r ≡ getD (costs .prices) (8 * sender + receiver) 0 ⌝ }
+{
+    let prices = costs.prices;
+    let i = 8 * (sender as usize) + receiver as usize;
+    if 64 <= i {
+        return 0;
+    }
+    prices[i]
+}
+
+fn priced(costs: Costs, sender: u8, receiver: u8, size: u64) -> u64
+    requires { ⌜ ((i : ℕ) → getD (costs .prices) i 0 ≤ 1) × (size ≤ 2040000000) ⌝ }
+    ensures { λ r. ⌜ r ≡ priced costs sender receiver size ⌝ }
+{
+    let price = price_at(costs, sender, receiver);
+    size * price
+}
+
+// What a step sends: the distinct values of its right column.
+pub(crate) fn step_cost(costs: Costs, envelope: Envelope, profile: Profile, step: Step) -> u64
+    requires { ⌜ ((i : ℕ) → getD (costs .prices) i 0 ≤ 1) × ((i : ℕ) → getD (profile .counts) i 0 ≤ 1000000) ⌝ }
+    ensures { λ r. ⌜ r ≡ stepCost costs envelope profile step ⌝ }
+{
+    let left = step.left;
+    let right = step.right;
+    let column = crate::profiles::column_of(envelope, right);
+    let width = column.width as u64;
+    let count = crate::profiles::count_at(profile, right);
+    let sender = envelopes::sites::site_of(envelope, right.relation);
+    let receiver = envelopes::sites::site_of(envelope, left.relation);
+    priced(costs, sender, receiver, count * width)
+}
+
+// What one relation costs to be sent to a site.
+fn sent(costs: Costs, envelope: Envelope, profile: Profile, site: u8, relation: u8) -> u64
+    requires { ⌜ ((i : ℕ) → getD (costs .prices) i 0 ≤ 1) × ((i : ℕ) → getD (profile .rows) i 0 ≤ 1000000) × ((i : ℕ) → widthOf envelope i ≤ 2040) ⌝ }
+    ensures { λ r. ⌜ r ≡ priced costs (siteOf envelope relation) site (rowsOf profile relation * widthOf envelope relation) ⌝ }
+{
+    let rows = crate::profiles::rows_at(profile, relation);
+    let width = crate::profiles::width_of(envelope, relation);
+    let sender = envelopes::sites::site_of(envelope, relation);
+    priced(costs, sender, site, rows * width)
+}
+
+// What assembly at a site costs.
+pub(crate) fn assembly_at(costs: Costs, envelope: Envelope, profile: Profile, site: u8) -> u64
+    requires { ⌜ ((i : ℕ) → getD (costs .prices) i 0 ≤ 1) × ((i : ℕ) → getD (profile .rows) i 0 ≤ 1000000) × ((i : ℕ) → widthOf envelope i ≤ 2040) ⌝ }
+    ensures { λ r. ⌜ r ≡ assemblyAt costs envelope profile site ⌝ }
+{
+    let end = envelopes::parts::in_use(8, envelope.relation_count);
+    let mut total: u64 = 0;
+    let mut relation: u8 = 0;
+    while (relation as usize) < end {
+        let more = sent(costs, envelope, profile, site, relation);
+        total += more;
+        relation += 1;
+    }
+    total
+}
+
+// What a step brings: width times rows lost.
+pub(crate) fn benefit(envelope: Envelope, profile: Profile, step: Step) -> u64
+    requires { ⌜ (((i : ℕ) → getD (profile .rows) i 0 ≤ 1000000) × ((i : ℕ) → getD (profile .counts) i 0 ≤ 1000000)) × ((i : ℕ) → widthOf envelope i ≤ 2040) × (rowsAfter envelope profile step ≤ rowsOf profile (step .left .relation)) ⌝ }
+    ensures { λ r. ⌜ r ≡ benefit envelope profile step ⌝ }
+{
+    let left = step.left;
+    let width = crate::profiles::width_of(envelope, left.relation);
+    let before = crate::profiles::rows_at(profile, left.relation);
+    let after = crate::profiles::rows_after(envelope, profile, step);
+    width * (before - after)
 }

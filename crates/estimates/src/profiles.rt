@@ -4,6 +4,7 @@ use envelopes::envelope::Envelope;
 use envelopes::places::Place;
 use envelopes::relations::Column;
 use envelopes::relations::Relation;
+use papers::steps::Step;
 ghost use mathlib.Core.Path.{_≡_};
 ghost use mathlib.Core.List.{map};
 ghost use Prim.Native.Nat.{ℕ, _/_, _%_, _≤_, _<_};
@@ -12,7 +13,7 @@ ghost use Rattle.ground.specs.Lists.{below};
 ghost use Rattle.envelopes.specs.Relations.{noColumn, pastRelation};
 ghost use Rattle.envelopes.specs.Places.{place};
 ghost use Rattle.envelopes.specs.Parts.{relationsOf};
-ghost use Rattle.estimates.specs.Profile.{columnOf, domainSize, widthOf, rowsOf, countOf, given, shrunk};
+ghost use Rattle.estimates.specs.Profile.{columnOf, domainSize, widthOf, rowsOf, countOf, given, shrunk, afterSelection, rowsAfter, countAfter, afterStep};
 
 // Relation r has rows[r]; its column c has counts[8 * r + c].
 pub struct Profile {
@@ -238,4 +239,57 @@ fn with_rows(all: [u64; 8], relation: u8, rows: u64) -> [u64; 8]
         out[i] = rows;
     }
     out
+}
+
+// The rows of its left relation that a step leaves.
+pub(crate) fn rows_after(envelope: Envelope, profile: Profile, step: Step) -> u64
+    requires { ⌜ ((i : ℕ) → getD (profile .rows) i 0 ≤ 1000000) × ((i : ℕ) → getD (profile .counts) i 0 ≤ 1000000) ⌝ }
+    ensures { λ r. ⌜ r ≡ rowsAfter envelope profile step ⌝ }
+{
+    let left = step.left;
+    let right = step.right;
+    let rows = rows_at(profile, left.relation);
+    let count = count_at(profile, right);
+    let size = domain_size(envelope, left);
+    crate::division::over(rows * count, size as u64)
+}
+
+// The count of its left column that a step leaves.
+fn count_after(envelope: Envelope, profile: Profile, step: Step) -> u64
+    requires { ⌜ ((i : ℕ) → getD (profile .counts) i 0 ≤ 1000000) ⌝ }
+    ensures { λ r. ⌜ r ≡ countAfter envelope profile step ⌝ }
+{
+    let left = step.left;
+    let right = step.right;
+    let before = count_at(profile, left);
+    let count = count_at(profile, right);
+    let size = domain_size(envelope, left);
+    crate::division::over(before * count, size as u64)
+}
+
+impl Profile {
+    // What a selection on a column leaves.
+    pub(crate) fn after_selection(self, place: Place) -> Profile
+        requires { ⌜ ((i : ℕ) → getD (self .rows) i 0 ≤ 1000000) × ((i : ℕ) → getD (self .counts) i 0 ≤ 1000000) ⌝ }
+        ensures { λ r. ⌜ r ≡ afterSelection self place ⌝ }
+    {
+        let rows = rows_at(self, place.relation);
+        let n = crate::division::over(rows, count_at(self, place));
+        if n == 0 {
+            shrunk(self, place, n, 0)
+        } else {
+            shrunk(self, place, n, 1)
+        }
+    }
+
+    // What a step leaves. Its rows do not grow.
+    pub(crate) fn after_step(self, envelope: Envelope, step: Step) -> Profile
+        requires { ⌜ ((i : ℕ) → getD (self .rows) i 0 ≤ 1000000) × ((i : ℕ) → getD (self .counts) i 0 ≤ 1000000) × (rowsAfter envelope self step ≤ 1000000) ⌝ }
+        ensures { λ r. ⌜ r ≡ afterStep envelope self step ⌝ }
+    {
+        let left = step.left;
+        let rows = rows_after(envelope, self, step);
+        let count = count_after(envelope, self, step);
+        shrunk(self, left, rows, count)
+    }
 }

@@ -1,0 +1,134 @@
+-- The laws that the code of costs goes by: what each return answers, and that its numbers have a bound.
+use mathlib.Core.Path.{_≡_, sym, ap, ap₂, _∙_}
+use mathlib.Core.List.{List, map}
+use Prim.Native.Nat.{ℕ, _+_, _*_, _-_, _/_, _%_, _≤_, _<_, min}
+use native.Mathlib.Nat.{mul-le-mul}
+use native.Mathlib.Omega.{arith}
+use borrow.Author.Tests.{eq-eqb, ne-eqb}
+use lib.Dec.{eqb}
+use lib.ListN.{length, getD}
+use Rattle.ground.specs.Tests.{pick}
+use Rattle.ground.specs.Lists.{below, sum}
+use Rattle.ground.proofs.NumbersLaws.{below-length, below-getD}
+use Rattle.envelopes.specs.Parts.{relationCount}
+use Rattle.envelopes.specs.Sites.{siteOf}
+use Rattle.envelopes.specs.declared.relations.Column.{Column}
+use Rattle.envelopes.specs.declared.envelope.Envelope.{Envelope}
+use Rattle.papers.specs.declared.steps.Step.{Step}
+use Rattle.estimates.specs.Profile.{columnOf, widthOf, rowsOf, countOf, rowsAfter, benefit}
+use Rattle.estimates.specs.Costs.{plainCosts, priced, stepCost, assemblyAt}
+use Rattle.estimates.specs.declared.profiles.Profile.{Profile}
+use Rattle.estimates.specs.declared.costs.Costs.{Costs}
+use Rattle.estimates.proofs.TableCodeLaws.{Table, table-done, Summing, summing-start, summing-more, summing-done}
+
+-- ---- plain prices
+
+abbrev pub plainPrice : ℕ → ℕ
+plainPrice k = pick (eqb (k / 8) (k % 8)) 0 1
+
+pub plain-home : (k : ℕ) → k / 8 ≡ k % 8 → 0 ≡ plainPrice k
+plain-home k h = simp (eq-eqb (k / 8) (k % 8) h)
+
+pub plain-away : (k : ℕ) → (k / 8 ≡ k % 8 → ⊥) → 1 ≡ plainPrice k
+plain-away k h = simp (ne-eqb (k / 8) (k % 8) h)
+
+pub plain-whole : (i : ℕ) (out : List ℕ) → Table 64 0 plainPrice i out → 64 ≤ i → _≡_ {A = Costs} (record { prices = out }) plainCosts
+unfolding plainCosts
+plain-whole i out t h = rw (table-done 64 0 plainPrice i out t h)
+
+-- ---- one transfer
+
+abbrev pub Cheap : Costs → Type 0
+Cheap k = (i : ℕ) → getD (k .prices) i 0 ≤ 1
+
+module _ (k : Costs) (sender receiver size price : ℕ) (f : price ≡ getD (k .prices) (8 * sender + receiver) 0) where
+  pub priced-small : Cheap k → size ≤ 2040000000 → size * price ≤ 2040000000
+  priced-small c h = rw f (let g : size * getD (k .prices) (8 * sender + receiver) 0 ≤ 2040000000 * 1 = mul-le-mul h (c (8 * sender + receiver)) in omega (arith, g))
+
+  pub priced-is : size * price ≡ priced k sender receiver size
+  unfolding priced
+  priced-is = rw f
+
+-- sizes, as something else gave their parts
+pub cost-size : (p : Profile) (s : Step) (count width : ℕ) → count ≡ countOf p (s .right) → countOf p (s .right) ≤ 1000000 → width < 256
+    → count * width ≤ 255000000
+cost-size p s count width f h k = let l : width ≤ 255 = omega arith in rw f (mul-le-mul h l)
+
+pub sent-size : (e : Envelope) (p : Profile) (r rows width : ℕ) → rows ≡ rowsOf p r → width ≡ widthOf e r → rowsOf p r ≤ 1000000
+    → widthOf e r ≤ 2040 → rows * width ≤ 2040000000
+sent-size e p r rows width f g h k = rw (f, g) (mul-le-mul h k)
+
+module _ (k : Costs) (e : Envelope) (p : Profile) where
+  pub cost-is : (s : Step) (c : Column) (count sender receiver r : ℕ) → c ≡ columnOf e (s .right) → count ≡ countOf p (s .right)
+      → sender ≡ siteOf e (s .right .relation) → receiver ≡ siteOf e (s .left .relation)
+      → r ≡ priced k sender receiver (count * c .width) → r ≡ stepCost k e p s
+  unfolding stepCost
+  cost-is s c count sender receiver r f g h i w = w ∙ rw (f, g, h, i)
+
+  -- ---- assembly
+
+  abbrev pub sentTo : ℕ → ℕ → ℕ
+  sentTo site r = priced k (siteOf e r) site (rowsOf p r * widthOf e r)
+
+  pub sent-is : (site r rows width sender x : ℕ) → rows ≡ rowsOf p r → width ≡ widthOf e r → sender ≡ siteOf e r
+      → x ≡ priced k sender site (rows * width) → x ≡ sentTo site r
+  sent-is site r rows width sender x f g h w = w ∙ rw (f, g, h)
+
+  sent-small : Cheap k → ((r : ℕ) → rowsOf p r ≤ 1000000) → ((r : ℕ) → widthOf e r ≤ 2040) → (site r : ℕ) → sentTo site r ≤ 2040000000
+  unfolding priced
+  sent-small c h w site r =
+      let g : rowsOf p r * widthOf e r * getD (k .prices) (8 * siteOf e r + site) 0 ≤ 1000000 * 2040 * 1 =
+      mul-le-mul (mul-le-mul (h r) (w r)) (c (8 * siteOf e r + site)) in
+      omega (arith, g)
+
+  pub sent-few : Cheap k → ((r : ℕ) → rowsOf p r ≤ 1000000) → ((r : ℕ) → widthOf e r ≤ 2040) → (site r v : ℕ) → v ≡ sentTo site r → v ≤ 2040000000
+  sent-few c h w site r v g = rw g (sent-small c h w site r)
+
+pub record Assembling (k : Costs) (e : Envelope) (p : Profile) (site end i total : ℕ) : Type 0 where
+  pub within : i ≤ end
+  pub few : end ≤ 8
+  pub used : end ≡ relationCount e
+  pub small : total ≤ 2040000000 * i
+  pub sum : Summing 2040000000 (sentTo k e p site) (below end) i total
+
+module _ (k : Costs) (e : Envelope) (p : Profile) (site end : ℕ) where
+  pub assembling-start : end ≡ relationCount e → Assembling k e p site end 0 0
+  assembling-start u =
+      record { within = omega arith; few = omega arith; used = u; small = omega arith; sum = summing-start 2040000000 (sentTo k e p site) (below end) }
+
+  module _ (i total : ℕ) (a : Assembling k e p site end i total) where
+    pub assembling-more : Cheap k → ((r : ℕ) → rowsOf p r ≤ 1000000) → ((r : ℕ) → widthOf e r ≤ 2040) → i < end
+        → (v : ℕ) → v ≡ sentTo k e p site i → Assembling k e p site end (i + 1) (total + v)
+    assembling-more c h w l v g =
+        let m : v ≤ 2040000000 = sent-few k e p c h w site i v g in
+        record {
+          within = omega arith;
+          few = a .few;
+          used = a .used;
+          small = omega (arith, a .small);
+          sum =
+              summing-more 2040000000 (sentTo k e p site) (below end) i total (a .sum) 0 (omega (arith, below-length end)) v
+              (g ∙ ap (sentTo k e p site) (sym (below-getD end i 0 l)))
+              m;
+        }
+
+    pub assembling-done : end ≤ i → total ≡ assemblyAt k e p site
+    unfolding assemblyAt
+    assembling-done h =
+        summing-done 2040000000 (sentTo k e p site) (below end) i total (a .sum) (omega (arith, below-length end))
+        ∙ ap (λ (n : ℕ). sum (map (sentTo k e p site) (below n))) (a .used)
+
+-- ---- the benefit
+
+module _ (e : Envelope) (p : Profile) (s : Step) where
+  pub benefit-is : (width before after : ℕ) → width ≡ widthOf e (s .left .relation) → before ≡ rowsOf p (s .left .relation)
+      → after ≡ rowsAfter e p s → width * (before - after) ≡ benefit e p s
+  unfolding benefit
+  benefit-is width before after f g h = rw (f, g, h)
+
+  pub lost-most : (width before after : ℕ) → width ≡ widthOf e (s .left .relation) → widthOf e (s .left .relation) ≤ 2040
+      → before ≡ rowsOf p (s .left .relation) → rowsOf p (s .left .relation) ≤ 1000000 → width * (before - after) ≤ 2040000000
+  lost-most width before after f h g k =
+      let l : before - after ≤ 1000000 = omega arith in
+      let m : width ≤ 2040 = omega arith in
+      mul-le-mul m l

@@ -1,0 +1,52 @@
+-- The laws that the code of selections and steps goes by: what each return answers, and that its numbers have a bound.
+use mathlib.Core.Path.{_≡_, sym, ap, ap₂, _∙_}
+use Prim.Native.Nat.{ℕ, _*_, _≤_, zero-le}
+use native.Mathlib.Nat.{le-trans, mul-le-mul, mul-le-mul-left, le-refl}
+use native.Mathlib.Omega.{arith}
+use borrow.Author.Tests.{eq-eqb, ne-eqb}
+use lib.ListN.{getD}
+use Rattle.ground.proofs.CountLaws.{split}
+use Rattle.envelopes.specs.declared.places.Place.{Place}
+use Rattle.envelopes.specs.declared.envelope.Envelope.{Envelope}
+use Rattle.papers.specs.declared.steps.Step.{Step}
+use Rattle.estimates.specs.Division.{over}
+use Rattle.estimates.specs.Profile.{domainSize, rowsOf, countOf, shrunk, afterSelection, rowsAfter, countAfter, afterStep}
+use Rattle.estimates.specs.declared.profiles.Profile.{Profile}
+use Rattle.estimates.proofs.DivisionLaws.{over-none, over-most}
+
+-- two numbers of a profile, as something else gave them, multiplied
+pub product-most : (a b x y : ℕ) → a ≡ x → b ≡ y → x ≤ 1000000 → y ≤ 1000000 → a * b ≤ 1000000000000
+product-most a b x y f g h k = rw (f, g) (mul-le-mul h k)
+
+pub over-itself : (x d : ℕ) → over x d ≤ x
+over-itself x d =
+    split 1 d
+    (λ l. over-most x x d (omega (arith, mul-le-mul-left x l)))
+    (λ l. let z : d ≡ 0 = omega arith in rw (z, over-none x) zero-le)
+
+module _ (e : Envelope) (p : Profile) (s : Step) (count size : ℕ) (f : count ≡ countOf p (s .right)) (g : size ≡ domainSize e (s .left)) where
+  pub rows-after-is : (rows r : ℕ) → rows ≡ rowsOf p (s .left .relation) → r ≡ over (rows * count) size → r ≡ rowsAfter e p s
+  unfolding rowsAfter
+  rows-after-is rows r h k = k ∙ rw (h, f, g)
+
+  pub count-after-is : (before r : ℕ) → before ≡ countOf p (s .left) → r ≡ over (before * count) size → r ≡ countAfter e p s
+  unfolding countAfter
+  count-after-is before r h k = k ∙ rw (h, f, g)
+
+module _ (p : Profile) (a : Place) (rows count n : ℕ) (f : rows ≡ rowsOf p (a .relation)) (g : count ≡ countOf p a) (h : n ≡ over rows count) where
+  pub selection-most : rowsOf p (a .relation) ≤ 1000000 → n ≤ 1000000
+  selection-most k = omega (arith, h, f, k, over-itself rows count)
+
+  module _ (q : Profile) where
+    pub selection-none : n ≡ 0 → q ≡ shrunk p a n 0 → q ≡ afterSelection p a
+    unfolding afterSelection
+    selection-none z k = k ∙ rw (← f, ← g, ← h, eq-eqb n 0 z)
+
+    pub selection-some : (n ≡ 0 → ⊥) → q ≡ shrunk p a n 1 → q ≡ afterSelection p a
+    unfolding afterSelection
+    selection-some z k = k ∙ rw (← f, ← g, ← h, ne-eqb n 0 z)
+
+pub step-is : (e : Envelope) (p q : Profile) (s : Step) (rows count : ℕ) → rows ≡ rowsAfter e p s → count ≡ countAfter e p s
+    → q ≡ shrunk p (s .left) rows count → q ≡ afterStep e p s
+unfolding afterStep
+step-is e p q s rows count f g h = h ∙ rw (f, g)

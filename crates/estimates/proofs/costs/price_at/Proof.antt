@@ -1,0 +1,27 @@
+use Rattle.estimates.proofs.ProfileCodeLaws.{none-at}
+use borrow.Author.Needs.{needs}
+use Rattle.estimates.proofs.costs.price_at.Statement.{statement}
+use Rattle.estimates.proofs.costs.price_at.Tie as tie
+use Rattle.estimates.proofs.costs.price_at.Reads as reads
+use Rattle.estimates.proofs.costs.price_at.Lts as lts
+
+mul-i : tie.Need-mul-i
+mul-i c = search needs
+
+add-i : tie.Need-add-i
+add-i c = search needs
+
+returns : tie.Need-returns
+returns c = search (none-at, needs)
+
+mul-result : tie.Need-mul-result
+mul-result c = search needs
+
+array-read-result : tie.Need-array-read-result
+array-read-result c = search needs
+
+returns-2 : tie.Need-returns-2
+returns-2 c = search needs
+
+pub price-at-spec : {M : Type 1} → statement M
+price-at-spec = tie.close (tie.spec mul-i add-i returns mul-result array-read-result returns-2)

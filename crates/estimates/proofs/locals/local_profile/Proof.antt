@@ -1,0 +1,75 @@
+use Rattle.estimates.proofs.LocalCodeLaws.{Localizing, localizing-start, localizing-more, localizing-done}
+use Prim.Native.Nat.{_-_}
+use borrow.Author.Needs.{needs}
+use native.Mathlib.Omega.{arith}
+use Rattle.estimates.proofs.locals.local_profile.Statement.{statement}
+use Rattle.estimates.proofs.locals.local_profile.Tie as tie
+use Rattle.estimates.proofs.locals.local_profile.Reads as reads
+use Rattle.estimates.proofs.locals.local_profile.Lts as lts
+use Rattle.envelopes.proofs.parts.in_use.Reads as in-use-reads
+use Rattle.estimates.proofs.locals.after_selections.Reads as after-selections-reads
+use Rattle.estimates.proofs.profiles.given.Reads as given-reads
+use Rattle.papers.proofs.labels.labels_of.Reads as labels-of-reads
+
+abbrev Inv-loop : tie.InvT-loop
+Inv-loop envelope labels end now₀ relation₀ now relation = Localizing envelope end relation now
+
+abbrev μ-loop : tie.MeasureT-loop
+μ-loop envelope labels end now₀ relation₀ now relation = end - relation
+
+-- src/locals.rt:41:9
+labels-of-requires : tie.Need-labels-of-requires Inv-loop μ-loop
+labels-of-requires c κs = search needs
+
+-- src/locals.rt:42:9
+in-use-requires : tie.Need-in-use-requires Inv-loop μ-loop
+in-use-requires c κs = search needs
+
+-- src/locals.rt:43:9
+given-requires : tie.Need-given-requires Inv-loop μ-loop
+given-requires c κs = search needs
+
+-- src/locals.rt:45:5
+loop-holds : tie.Need-loop-holds Inv-loop μ-loop
+loop-holds c = search (localizing-start, needs)
+
+-- src/locals.rt:45:12
+cast-loop : tie.Need-cast-loop Inv-loop μ-loop
+cast-loop c = omega arith
+
+-- src/locals.rt:46:9
+after-selections-requires : tie.Need-after-selections-requires Inv-loop μ-loop
+after-selections-requires c κs = search needs
+
+-- src/locals.rt:47:9
+add-relation : tie.Need-add-relation Inv-loop μ-loop
+add-relation c = omega arith
+
+-- src/locals.rt:45:5
+loop-less : tie.Need-loop-less Inv-loop μ-loop
+loop-less c = omega arith
+
+-- src/locals.rt:45:5
+loop-again : tie.Need-loop-again Inv-loop μ-loop
+loop-again c = search (localizing-more, needs)
+
+-- src/locals.rt:37:1
+returns : tie.Need-returns Inv-loop μ-loop
+returns c = search (localizing-done, needs)
+
+pub local-profile-spec : {M : Type 1} → statement M
+local-profile-spec =
+    tie.close
+    (tie.spec
+    Inv-loop
+    μ-loop
+    labels-of-requires
+    in-use-requires
+    given-requires
+    loop-holds
+    cast-loop
+    after-selections-requires
+    add-relation
+    loop-less
+    loop-again
+    returns)

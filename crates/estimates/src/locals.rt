@@ -1,0 +1,50 @@
+// The profile behind local operations: every implied selection, in order of relation, column, value.
+use crate::profiles::Profile;
+use envelopes::envelope::Envelope;
+use envelopes::places::Place;
+use papers::labels::Labels;
+ghost use mathlib.Core.Path.{_≡_};
+ghost use Prim.Native.Nat.{ℕ, _≤_};
+ghost use lib.ListN.{getD};
+ghost use Rattle.envelopes.specs.Rules.{Within, tidy};
+ghost use Rattle.papers.specs.Labels.{byLabels};
+ghost use Rattle.papers.specs.Implied.{selectionsBy};
+ghost use Rattle.estimates.specs.Profile.{afterSelections, localProfile};
+
+// The implied selections of a relation, by the labels of an envelope.
+fn after_selections(envelope: Envelope, labels: Labels, profile: Profile, relation: u8) -> Profile
+    requires { ⌜ Within envelope × ((i : ℕ) → getD (profile .rows) i 0 ≤ 1000000) × ((i : ℕ) → getD (profile .counts) i 0 ≤ 1000000) ⌝ }
+    ensures { λ r. ⌜ r ≡ afterSelections profile relation (selectionsBy (byLabels (labels .of) envelope) envelope relation) ⌝ }
+{
+    let selections = papers::implied::selections_by(envelope, labels, relation);
+    let all = selections.all;
+    let end = selections.count as usize;
+    let mut now = profile;
+    let mut i: usize = 0;
+    while i < end {
+        let selection = all[i];
+        let place = Place {
+            relation: relation,
+            column: selection.column,
+        };
+        now = now.after_selection(place);
+        i += 1;
+    }
+    now
+}
+
+// For an envelope that was taken.
+pub(crate) fn local_profile(envelope: Envelope) -> Profile
+    requires { ⌜ Within envelope × (tidy envelope ≡ envelope) ⌝ }
+    ensures { λ r. ⌜ r ≡ localProfile envelope ⌝ }
+{
+    let labels = papers::labels::labels_of(envelope);
+    let end = envelopes::parts::in_use(8, envelope.relation_count);
+    let mut now = crate::profiles::given(envelope);
+    let mut relation: u8 = 0;
+    while (relation as usize) < end {
+        now = after_selections(envelope, labels, now, relation);
+        relation += 1;
+    }
+    now
+}
