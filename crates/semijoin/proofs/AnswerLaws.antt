@@ -5,18 +5,20 @@ use mathlib.Core.Bool.{Bool, true, false}
 use mathlib.Core.List.{List, [], _∷_, map, map-map, List·Memᴰ, List·Memᴰ·cases-cons}
 use mathlib.Core.Logic.{_⊎_, inl, inr}
 use Prim.Native.Nat.{ℕ, suc, _<_, zero-le, suc-le-suc}
+use native.Mathlib.Omega.{arith}
 use lib.ListN.{length, getD, length-map}
 use Rattle.ground.specs.Lists.{consIf, filter, all, combinations, below}
 use Rattle.ground.proofs.ListLaws.{all-index, filter-map, filter-implied, map-mem, map-alike, getD-map}
-use Rattle.ground.proofs.NumbersLaws.{below-length, below-getD}
+use Rattle.ground.proofs.NumbersLaws.{below-length, below-getD, below-from}
+use Rattle.ground.proofs.CountLaws.{split}
 use Rattle.ground.proofs.CombinationLaws.{combinations-from, combinations-length, combinations-filters, combinations-map}
 use Rattle.envelopes.specs.Parts.{relationCount, clausesOf, targetsOf}
 use Rattle.envelopes.specs.declared.envelope.Envelope.{Envelope}
 use Rattle.papers.specs.Meaning.{Row, Table, meetsAll, targetRow, tablesOf, answerOn, answerRows}
-use Rattle.semijoin.specs.Offsets.{countIn, rowsAt}
-use Rattle.semijoin.specs.Marks.{isKept, keptOf}
-use Rattle.semijoin.specs.Promise.{rowOf, Needed}
-use Rattle.semijoin.proofs.OffsetLaws.{rowsAt-length, tables-are}
+use Rattle.semijoin.specs.Offsets.{countIn, rowsAt, marksAt}
+use Rattle.semijoin.specs.Marks.{isKept, keptOf, keptRows}
+use Rattle.semijoin.specs.Promise.{rowOf, keptAt, SameRows, Needed, Covers}
+use Rattle.semijoin.proofs.OffsetLaws.{count-outside, rowsAt-length, tables-are}
 
 -- ---- a table's rows with their marks beside them; a row without one has 0
 
@@ -61,7 +63,8 @@ beside-from : {x : Marked} (ms : List ℕ) (t : Table) → List·Memᴰ x (besid
 beside-from ms [] n = elim n [ ]
 beside-from {x} [] (row ∷ t) n = go (List·Memᴰ·cases-cons n) (beside-from [] t)
   where
-    go : (x ≡ marked 0 row) ⊎ List·Memᴰ x (beside [] t) → (List·Memᴰ x (beside [] t) → (i : ℕ) × (i < length t) × (x ≡ marked 0 (getD t i [])))
+    go : (x ≡ marked 0 row) ⊎ List·Memᴰ x (beside [] t)
+        → (List·Memᴰ x (beside [] t) → (i : ℕ) × (i < length t) × (x ≡ marked 0 (getD t i [])))
         → (i : ℕ) × (i < suc (length t)) × (x ≡ marked 0 (getD (row ∷ t) i []))
     go (inl e) ih = (0, suc-le-suc zero-le, e)
     go (inr k) ih = let (i, h, e) = ih k in (suc i, suc-le-suc h, e)
@@ -77,7 +80,7 @@ beside-from {x} (m ∷ ms) (row ∷ t) n = go (List·Memᴰ·cases-cons n) (besi
 
 module _ (e : Envelope) (whole : List ℕ) (marks : ℕ → List ℕ)
     (covers : (r i : ℕ) → i < countIn e whole r → Needed e whole r (rowOf e whole r i) → isKept (getD (marks r) i 0) ≡ true) where
-  abbrev pub tablesBy : List Table
+  abbrev tablesBy : List Table
   tablesBy = map (λ r. keptOf (marks r) (rowsAt e whole r)) (below (relationCount e))
 
   abbrev pairs : ℕ → List Marked
@@ -113,13 +116,14 @@ module _ (e : Envelope) (whole : List ℕ) (marks : ℕ → List ℕ)
       let (i, k, w) = beside-from (marks r) (rowsAt e whole r) (rw (paired-at r long) at (combinations-from (marked 0 []) paired r long n)) in
       kept r i l k w
     where
-      kept : (r i : ℕ) → r < length c → i < length (rowsAt e whole r) → getD c r (marked 0 []) ≡ marked (getD (marks r) i 0) (rowOf e whole r i)
+      kept : (r i : ℕ) → r < length c → i < length (rowsAt e whole r)
+          → getD c r (marked 0 []) ≡ marked (getD (marks r) i 0) (rowOf e whole r i)
           → isOn (getD c r (marked 0 [])) ≡ true
       kept r i l k w =
           let row : getD (map rowIn c) r [] ≡ rowOf e whole r i = getD-map rowIn c r (marked 0 []) [] l ∙ ap rowIn w in
           ap isOn w ∙ covers r i (rw (rowsAt-length e whole r) at k) (map rowIn c, rw plain at (map-mem (map rowIn) n), met, row)
 
-  pub met-alike : filter (meetsAll (clausesOf e)) (combinations tablesBy) ≡ filter (meetsAll (clausesOf e)) (combinations (tablesOf e whole))
+  met-alike : filter (meetsAll (clausesOf e)) (combinations tablesBy) ≡ filter (meetsAll (clausesOf e)) (combinations (tablesOf e whole))
   met-alike =
       rw (tables-paired, combinations-map rowIn, combinations-filters, filter-map)
       (ap (map (map rowIn))
@@ -127,6 +131,26 @@ module _ (e : Envelope) (whole : List ℕ) (marks : ℕ → List ℕ)
       ∙ sym (filter-map (meetsAll (clausesOf e)) (map rowIn) (combinations paired))
       ∙ ap (filter (meetsAll (clausesOf e))) plain)
 
-  pub answer-covered : answerOn (clausesOf e) (targetsOf e) tablesBy ≡ answerRows e whole
+  answer-covered : answerOn (clausesOf e) (targetsOf e) tablesBy ≡ answerRows e whole
   unfolding answerOn answerRows
   answer-covered = ap (map (targetRow (targetsOf e))) met-alike
+
+-- ---- the tables of kept rows, each relation's where its rows and marks are, give the answer on all tables
+
+module _ (e : Envelope) (whole : List ℕ) (words marks : ℕ → List ℕ) (same : (r : ℕ) → r < relationCount e → SameRows e r (words r) whole)
+    (covers : (r : ℕ) → r < relationCount e → Covers e whole (words r) (marks r) r) where
+  own-marks : (r i : ℕ) → i < countIn e whole r → Needed e whole r (rowOf e whole r i) → keptAt e (words r) (marks r) r i ≡ true
+  own-marks r i h n =
+      split (relationCount e) r
+      (λ k. let none : countIn e whole r ≡ 0 = count-outside e whole r k in absurd (omega arith))
+      (λ k.
+      let l : i < countIn e (words r) r = omega (arith, ap length (same r k), rowsAt-length e whole r, rowsAt-length e (words r) r) in
+      covers r k i l (rw (ap (λ (t : Table). getD t i []) (same r k)) n))
+
+  pub delivered : answerOn (clausesOf e) (targetsOf e) (map (λ r. keptRows e (words r) (marks r) r) (below (relationCount e))) ≡ answerRows e whole
+  unfolding keptRows
+  delivered =
+      ap (answerOn (clausesOf e) (targetsOf e))
+      (map-alike (λ r. keptRows e (words r) (marks r) r) (λ r. keptOf (marksAt e (words r) r (marks r)) (rowsAt e whole r)) (below (relationCount e))
+      (λ r m. rw (same r (below-from (relationCount e) m))))
+      ∙ answer-covered e whole (λ r. marksAt e (words r) r (marks r)) own-marks

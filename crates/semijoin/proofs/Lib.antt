@@ -15,3 +15,5 @@ pub mod AmongCodeLaws
 pub mod ExtentCodeLaws
 pub mod ValueCodeLaws
 pub mod SieveCodeLaws
+pub mod LocalCodeLaws
+pub mod RunCodeLaws

@@ -1,5 +1,5 @@
 -- What each return of the functions on row counts, extents and shape answers.
-use mathlib.Core.Path.{_≡_, refl, sym, ap, _∙_}
+use mathlib.Core.Path.{_≡_, sym, ap, _∙_}
 use mathlib.Core.Bool.{true, false}
 use mathlib.Core.List.{List}
 use Prim.Native.Nat.{ℕ, _+_, _*_, _≤_, _<_, min}
@@ -10,12 +10,12 @@ use Rattle.ground.proofs.TestLaws.{not-holds}
 use Rattle.ground.proofs.CountLaws.{split}
 use Rattle.envelopes.specs.Parts.{relationCount, columnsIn}
 use Rattle.envelopes.specs.declared.envelope.Envelope.{Envelope}
-use Rattle.semijoin.specs.Offsets.{countIn, firstWord, firstMark, rowCount}
+use Rattle.semijoin.specs.Offsets.{countIn, firstWord, firstMark}
 use Rattle.semijoin.specs.Shape.{shaped}
 use Rattle.semijoin.specs.Extents.{extentOf}
 use Rattle.semijoin.specs.declared.offsets.Extent.{Extent}
 use Rattle.semijoin.proofs.OffsetLaws.{count-inside, count-outside, rows-none, rows-more, first-none, first-more}
-use Rattle.semijoin.proofs.ShapeLaws.{Shape, shaped-shape, shape-shaped, columns-most}
+use Rattle.semijoin.proofs.ShapeLaws.{shaped-shape, shape-shaped, columns-most}
 
 -- a 32-bit count of rows times at most 8 columns
 pub words-most : (n k : ℕ) → n < 4294967296 → k ≤ 8 → n * k ≤ 34359738368

@@ -101,7 +101,9 @@ module _ (e : Envelope) where
   module _ (words values marks : List ℕ) (a : Place) where
     exact : (i : ℕ) → keptAt e words (reducedBy e words values a marks) (a .relation) i
         ≡ (keptAt e words marks (a .relation) i && among values (wordOf e words a i))
-    exact i = ap (λ (ms : List ℕ). isKept (getD ms i 0)) (reduced-own e words values a marks) ∙ split (countIn e words (a .relation)) i past inside
+    exact i =
+        ap (λ (ms : List ℕ). isKept (getD ms i 0)) (reduced-own e words values a marks)
+        ∙ split (countIn e words (a .relation)) i past inside
       where
         ms : List ℕ
         ms = marksAt e words (a .relation) marks
@@ -109,11 +111,14 @@ module _ (e : Envelope) where
         rows : Table
         rows = rowsAt e words (a .relation)
 
-        past : countIn e words (a .relation) ≤ i → isKept (getD (sieved values (a .column) ms rows) i 0) ≡ (isKept (getD ms i 0) && among values (wordOf e words a i))
+        Exactly : Type 0
+        Exactly = isKept (getD (sieved values (a .column) ms rows) i 0) ≡ (isKept (getD ms i 0) && among values (wordOf e words a i))
+
+        past : countIn e words (a .relation) ≤ i → Exactly
         past h =
             rw (sieved-past values (a .column) ms rows i (rw (rowsAt-length e words (a .relation)) h), past-last words marks (a .relation) i h)
 
-        inside : i < countIn e words (a .relation) → isKept (getD (sieved values (a .column) ms rows) i 0) ≡ (isKept (getD ms i 0) && among values (wordOf e words a i))
+        inside : i < countIn e words (a .relation) → Exactly
         inside h =
             ap isKept (sieved-at values (a .column) ms rows i (row-inside words (a .relation) i h))
             ∙ kept-both (among values (wordOf e words a i)) (getD ms i 0)
@@ -175,7 +180,8 @@ module _ (e : Envelope) where
         values-are = λ words marks b v. (values-from words marks b v, λ (i, k, w). values-of words marks b v i k w);
         rises = λ words marks b. rises words marks b;
         no-more = rising-rows;
-        either-list = λ words marks b others those a. reduced-alike e others (risingValues e words marks b) (valuesOf e words marks b) a those (rising-same words marks b);
+        either-list = λ words marks b others those a.
+            reduced-alike e others (risingValues e words marks b) (valuesOf e words marks b) a those (rising-same words marks b);
         exactly = exact;
         adds-none = none-added;
         others-stay = λ words values marks a r n. reduced-other e words values a marks r n;

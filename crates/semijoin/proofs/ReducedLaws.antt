@@ -1,10 +1,11 @@
 -- The marks of all relations after one step: those of its relation are sieved, and nothing else changes.
 use mathlib.Core.Path.{_≡_, sym, ap, _∙_}
-use mathlib.Core.List.{List}
+use mathlib.Core.List.{List, []}
 use Prim.Native.Nat.{ℕ, _+_, _≤_, _<_}
 use native.Mathlib.Omega.{arith}
 use lib.ListN.{length, getD, take, drop}
 use lib.Seq.{sets, length-sets}
+use Rattle.ground.specs.Tests.{pick}
 use Rattle.ground.specs.Lists.{filter}
 use Rattle.ground.proofs.CountLaws.{split}
 use Rattle.envelopes.specs.Parts.{relationCount}
@@ -13,17 +14,20 @@ use Rattle.envelopes.specs.declared.envelope.Envelope.{Envelope}
 use Rattle.semijoin.specs.Offsets.{countIn, firstMark, rowCount, rowsAt, marksAt}
 use Rattle.semijoin.specs.Marks.{keptOf, keptRows, among, sieved, reducedBy, removedBy}
 use Rattle.semijoin.proofs.PartLaws.{none, part-length, part-getD, part-stand, part-before, part-behind}
-use Rattle.semijoin.proofs.OffsetLaws.{count-outside, marks-end}
-use Rattle.semijoin.proofs.MarkLaws.{occurs, sieved-length, kept-sieved, removed-kept, sieved-alike}
+use Rattle.semijoin.proofs.OffsetLaws.{count-outside, marks-end, rowsAt-length}
+use Rattle.semijoin.proofs.MarkLaws.{occurs, sieved-length, sieved-at, kept-sieved, removed-kept, sieved-alike}
 
 module _ (e : Envelope) (words : List ℕ) where
   -- ---- a relation's part of the marks
 
-  pub marks-length : (marks : List ℕ) (r : ℕ) → r < relationCount e → rowCount e words ≤ length marks → length (marksAt e words r marks) ≡ countIn e words r
+  pub marks-length : (marks : List ℕ) (r : ℕ) → r < relationCount e → rowCount e words ≤ length marks
+      → length (marksAt e words r marks) ≡ countIn e words r
   unfolding marksAt
-  marks-length marks r h k = part-length (firstMark e words r) (countIn e words r) marks (omega (arith, marks-end e words r (relationCount e) h))
+  marks-length marks r h k =
+      part-length (firstMark e words r) (countIn e words r) marks (omega (arith, marks-end e words r (relationCount e) h))
 
-  pub mark-at : (marks : List ℕ) (r i : ℕ) → i < countIn e words r → getD (marksAt e words r marks) i 0 ≡ getD marks (firstMark e words r + i) 0
+  pub mark-at : (marks : List ℕ) (r i : ℕ) → i < countIn e words r
+      → getD (marksAt e words r marks) i 0 ≡ getD marks (firstMark e words r + i) 0
   unfolding marksAt
   mark-at marks r i h = part-getD (firstMark e words r) (countIn e words r) marks i 0 h
 
@@ -42,14 +46,17 @@ module _ (e : Envelope) (words : List ℕ) where
         let later : a < r = omega (arith, differ) in
         ap (take (countIn e words r))
         (part-behind marks (firstMark e words a) (countIn e words a) new same (firstMark e words r) (marks-end e words a r later)))
-        (λ h. part-before marks (firstMark e words a) (countIn e words a) new same (firstMark e words r) (countIn e words r) (marks-end e words r a h))
+        (λ h.
+        part-before marks (firstMark e words a) (countIn e words a) new same (firstMark e words r) (countIn e words r)
+        (marks-end e words r a h))
 
     pub past-stays : drop (rowCount e words) (sets marks (firstMark e words a) new) ≡ drop (rowCount e words) marks
     unfolding marksAt
     past-stays =
         split (relationCount e) a
         (λ h. rw (none new (rw (count-outside e words a h) at same)))
-        (λ h. part-behind marks (firstMark e words a) (countIn e words a) new same (rowCount e words) (marks-end e words a (relationCount e) h))
+        (λ h.
+        part-behind marks (firstMark e words a) (countIn e words a) new same (rowCount e words) (marks-end e words a (relationCount e) h))
 
   -- ---- a step
 
@@ -69,6 +76,15 @@ module _ (e : Envelope) (words : List ℕ) where
         ≡ sieved values (a .column) (marksAt e words (a .relation) marks) (rowsAt e words (a .relation))
     unfolding reducedBy after
     reduced-own = own-written marks (a .relation) after long
+
+    -- a removed row has 0, every other byte stays
+    pub reduced-byte : (i : ℕ) → i < countIn e words (a .relation)
+        → getD (marksAt e words (a .relation) (reducedBy e words values a marks)) i 0
+        ≡ pick (occurs values (a .column) (getD (rowsAt e words (a .relation)) i [])) (getD (marksAt e words (a .relation) marks) i 0) 0
+    reduced-byte i h =
+        ap (λ (ms : List ℕ). getD ms i 0) reduced-own
+        ∙ sieved-at values (a .column) (marksAt e words (a .relation) marks) (rowsAt e words (a .relation)) i
+        (rw (rowsAt-length e words (a .relation)) h)
 
     pub reduced-other : (r : ℕ) → (r ≡ a .relation → ⊥) → marksAt e words r (reducedBy e words values a marks) ≡ marksAt e words r marks
     unfolding reducedBy after

@@ -36,17 +36,17 @@ use Rattle.papers.proofs.StepLaws.{legal-step}
 use Rattle.papers.proofs.TidyLaws.{tidy-acceptable}
 use Rattle.papers.proofs.ExactPrograms.{program-complete}
 use Rattle.papers.proofs.ExactChecks.{check-exact}
-use Rattle.semijoin.specs.Offsets.{countIn, rowCount, marksAt}
+use Rattle.semijoin.specs.Offsets.{countIn, rowCount}
 use Rattle.semijoin.specs.Local.{opened}
 use Rattle.semijoin.specs.Marks.{keptRows, valuesOf, reducedBy, stepped, steppedAll}
-use Rattle.semijoin.specs.Run.{runMarks, runOutcome}
+use Rattle.semijoin.specs.Run.{runChecked, runMarks, runOutcome}
 use Rattle.semijoin.specs.Shape.{shaped}
 use Rattle.semijoin.specs.Promise.{rowOf, keptAt, FewerRows, Needed, Covers}
 use Rattle.semijoin.proofs.OffsetLaws.{count-outside}
 use Rattle.semijoin.proofs.PromiseLaws.{promise}
 use Rattle.semijoin.proofs.LocalLaws.{needed-passes, opened-kept, opened-past}
 use Rattle.semijoin.proofs.TidyLaws.{tidy-shaped, tidy-row-count, tidy-run, tidy-program-run}
-use Rattle.semijoin.proofs.AnswerLaws.{answer-covered}
+use Rattle.semijoin.proofs.AnswerLaws.{delivered}
 
 -- the kept rows of every relation
 abbrev pub keptTables : Envelope → List ℕ → List ℕ → List Table
@@ -59,13 +59,18 @@ module _ (e : Envelope) (words : List ℕ) where
 
   pub answer-kept : (marks : List ℕ) → CoversAll marks → answerOn (clausesOf e) (targetsOf e) (keptTables e words marks) ≡ answerRows e words
   unfolding keptRows
-  answer-kept marks covers = answer-covered e words (λ r. marksAt e words r marks) covers
+  answer-kept marks covers = delivered e words (λ _. words) (λ _. marks) (λ r h. refl) (λ r h. covers r)
 
   pub opened-covers : (marks : List ℕ) → rowCount e words ≤ length marks → CoversAll (sets marks 0 (opened e words (λ _. true)))
   opened-covers marks fits r i h n =
       split (relationCount e) r
       (λ k. let none : countIn e words r ≡ 0 = count-outside e words r k in absurd (omega arith))
       (λ k. opened-kept e words (λ _. true) marks fits r i k h ∙ needed-passes e words r (rowOf e words r i) n)
+
+  -- local operations leave the answer
+  pub opened-answer : (marks : List ℕ) → rowCount e words ≤ length marks
+      → answerOn (clausesOf e) (targetsOf e) (keptTables e words (sets marks 0 (opened e words (λ _. true)))) ≡ answerRows e words
+  opened-answer marks fits = answer-kept (sets marks 0 (opened e words (λ _. true))) (opened-covers marks fits)
 
   -- ---- steps
 
@@ -86,6 +91,12 @@ module _ (e : Envelope) (words : List ℕ) where
       go : Dec (r ≡ s .left .relation) → keptAt e words (reducedBy e words values (s .left) marks) r i ≡ true
       go (yes p) = rw p (own i (rw p at h) (rw p at n))
       go (no differ) = rw (promise e .others-stay words values marks (s .left) r differ) (covers r i h n)
+
+  -- a legal step leaves the answer of marks that keep every needed row
+  pub step-answer : (s : Step) (marks : List ℕ) → legal e s ≡ true → CoversAll marks
+      → answerOn (clausesOf e) (targetsOf e) (keptTables e words (stepped e words s marks))
+      ≡ answerOn (clausesOf e) (targetsOf e) (keptTables e words marks)
+  step-answer s marks t covers = answer-kept (stepped e words s marks) (step-covers s marks t covers) ∙ sym (answer-kept marks covers)
 
   -- every step legal
   abbrev pub AllLegal : List Step → Type 0
@@ -156,7 +167,7 @@ module _ (e : Envelope) (p : Program) (words marks : List ℕ) where
 
   -- papers that are taken may be looked at as they are
   pub run-outcome : Within e → Acceptable e p → runOutcome e p words marks ≡ judged runTests (good (runMarks e p words marks) 0)
-  unfolding runOutcome
+  unfolding runOutcome runChecked
   run-outcome within acceptable =
       rw (
         check-complete e within,

@@ -73,14 +73,16 @@ module _ (e : Envelope) (words : List ℕ) where
   pub shape-shaped : Shape e words → shaped e words ≡ true
   unfolding shaped
   shape-shaped s =
-      let few : all (λ r. leb (countIn e words r) 4096) (below (relationCount e)) ≡ true = all-of _ (below (relationCount e)) λ r m. le-leb _ _ (s .few r) in
+      let few : all (λ r. leb (countIn e words r) 4096) (below (relationCount e)) ≡ true =
+      all-of _ (below (relationCount e)) λ r m. le-leb _ _ (s .few r) in
       and-both (and-both (and-both (le-leb _ _ (s .counted)) few) (eq-eqb _ _ (s .whole))) (le-leb _ _ (s .within))
 
   module _ (s : Shape e words) where
     pub words-fit : (r : ℕ) → r < relationCount e → firstWord e words r + countIn e words r * columnsIn e r ≤ length words
     words-fit r h = rw (s .whole) (words-end e words r (relationCount e) h)
 
-    row-fits : (r i : ℕ) → r < relationCount e → i < countIn e words r → firstWord e words r + i * columnsIn e r + columnsIn e r ≤ length words
+    row-fits : (r i : ℕ) → r < relationCount e → i < countIn e words r
+        → firstWord e words r + i * columnsIn e r + columnsIn e r ≤ length words
     row-fits r i h k =
         let m : suc i * columnsIn e r ≤ countIn e words r * columnsIn e r = mul-le-mul-right (columnsIn e r) k in
         omega (arith, words-fit r h, suc-mul i (columnsIn e r))
@@ -94,7 +96,9 @@ module _ (e : Envelope) (words : List ℕ) where
     row-length r i k =
         split (relationCount e) r
         (λ h. let none : countIn e words r ≡ 0 = count-outside e words r h in absurd (omega arith))
-        (λ h. ap length (row-is e words r i k) ∙ part-length (firstWord e words r + i * columnsIn e r) (columnsIn e r) words (row-fits r i h k))
+        (λ h.
+        ap length (row-is e words r i k)
+        ∙ part-length (firstWord e words r + i * columnsIn e r) (columnsIn e r) words (row-fits r i h k))
 
     -- ---- how many rows there can be: by the counts alone, and where every relation has a column
 

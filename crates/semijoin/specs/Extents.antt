@@ -1,12 +1,18 @@
 -- Where one relation lies, as one value: its columns and rows, its first word and its first mark. And what such a value
 -- says of words and marks: its rows, its part of the marks, the kept values of a column, and what reducing it leaves.
 use Prim.Native.Nat.{ℕ}
+use mathlib.Core.Bool.{Bool, _&&_}
 use mathlib.Core.List.{List, map}
 use lib.ListN.{take, drop}
 use lib.Seq.{sets}
+use lib.Dec.{eqb}
+use Rattle.ground.specs.Tests.{pick}
+use Rattle.ground.specs.Lists.{all}
 use Rattle.envelopes.specs.Parts.{columnsIn}
 use Rattle.envelopes.specs.declared.envelope.Envelope.{Envelope}
 use Rattle.papers.specs.Meaning.{Row, Table, wordIn, rowsIn}
+use Rattle.papers.specs.declared.implied.Selected.{Selected}
+use Rattle.papers.specs.declared.implied.Equal.{Equal}
 use Rattle.semijoin.specs.Offsets.{countIn, firstWord, firstMark}
 use Rattle.semijoin.specs.Marks.{keptOf, sieved, removedOf}
 use Rattle.semijoin.specs.declared.offsets.Extent.{Extent}
@@ -29,3 +35,13 @@ sievedOver x c words values marks = sets marks (x .mark) (sieved values c (marks
 
 unfoldable pub removedOver : Extent → ℕ → List ℕ → List ℕ → List ℕ → ℕ
 removedOver x c words values marks = removedOf values c (marksOver x marks) (rowsOver x words)
+
+-- a row passes some selections and equalities
+unfoldable pub passesBy : List Selected → List Equal → Row → Bool
+passesBy selections equalities row =
+    all (λ (s : Selected). eqb (wordIn row (s .column)) (s .value)) selections
+    && all (λ (s : Equal). eqb (wordIn row (s .left)) (wordIn row (s .right))) equalities
+
+-- the mark of a row at opening, by whether its relation is here
+unfoldable pub openingMark : Bool → List Selected → List Equal → Row → ℕ
+openingMark here selections equalities row = pick (here && passesBy selections equalities row) 1 0

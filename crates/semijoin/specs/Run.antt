@@ -23,14 +23,19 @@ use Rattle.semijoin.specs.Marks.{steppedAll}
 unfoldable pub runMarks : Envelope → Program → List ℕ → List ℕ → List ℕ
 runMarks e p words marks = steppedAll e words (stepsOf p) (sets marks 0 (opened e words (λ _. true)))
 
--- the run with its refusals: the envelope, the program, 10, 11
+-- the run of a good program on a good envelope: 10, 11
+unfoldable pub runChecked : Envelope → Program → List ℕ → List ℕ → Outcome (List ℕ)
+runChecked e p words marks =
+    judged
+    (test (not (shaped e words)) wrongShape 0 ∷ test (ltb (length marks) (rowCount e words)) tooShort 0 ∷ [])
+    (good (runMarks e p words marks) 0)
+
+-- the run with its refusals: the envelope, the program, then those
 unfoldable pub runOutcome : Envelope → Program → List ℕ → List ℕ → Outcome (List ℕ)
 runOutcome e p words marks =
     next (checkEnvelope e)
     (λ e _. next (programAgainst e (programBytes p))
-    (λ p _. judged
-    (test (not (shaped e words)) wrongShape 0 ∷ test (ltb (length marks) (rowCount e words)) tooShort 0 ∷ [])
-    (good (runMarks e p words marks) 0)))
+    (λ p _. runChecked e p words marks))
 
 -- the marks afterwards: as they were where it is refused
 unfoldable pub marksAfter : List ℕ → Outcome (List ℕ) → List ℕ

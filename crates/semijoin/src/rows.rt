@@ -38,3 +38,14 @@ pub(crate) fn keep_if(marks: &mut [u8], at: usize, stays: bool) -> usize
     marks[at] = 0;
     1
 }
+
+// The word of a column that need not be there: 0 past the last.
+pub(crate) fn word_or_zero(tables: &[u32], extent: Extent, row: usize, column: u8) -> u32
+    requires { ⌜ (row < extent .rows) × (extent .word + extent .rows * extent .columns ≤ length (now tables)) ⌝ }
+    ensures { λ r. ⌜ r ≡ wordIn (getD (rowsOver extent (now (tables .entry))) row []) column ⌝ }
+{
+    if extent.columns <= column as usize {
+        return 0;
+    }
+    word_in(tables, extent, row, column)
+}

@@ -1,7 +1,5 @@
 use Rattle.semijoin.proofs.OffsetCodeLaws.{Few, few-start, few-more}
-use Rattle.ground.proofs.CountLaws.{split}
-use lib.ListN.{getD}
-use Prim.Native.Nat.{ℕ, _≤_, _<_, _-_}
+use Prim.Native.Nat.{_-_}
 use Rattle.semijoin.proofs.OffsetCodeLaws.{shape-short, shape-long, shape-other, shape-over, shape-all}
 use borrow.Author.Needs.{needs}
 use native.Mathlib.Omega.{arith}

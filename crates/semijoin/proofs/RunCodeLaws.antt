@@ -1,0 +1,198 @@
+-- What the functions of the one-place run answer: steps one after the other, and each return of the run.
+use mathlib.Core.Path.{_≡_, refl, sym, ap, _∙_}
+use mathlib.Core.Bool.{Bool, true, false, not}
+use mathlib.Core.List.{List}
+use Prim.Native.Nat.{ℕ, zero, suc, _+_, _≤_, _<_, min}
+use native.Mathlib.Nat.{min-le-left}
+use native.Mathlib.Numerals.{add-one}
+use native.Mathlib.Omega.{arith}
+use lib.ListN.{length, getD, take, drop, replicate, length-take, drop-of-length-le}
+use lib.Seq.{sets, length-sets, drop-cons, getD-take}
+use lib.Dec.{ltb}
+use borrow.Author.Tests.{lt-ltb, le-ltb, not-true, not-false, ltb-true}
+use Rattle.ground.specs.Lists.{Every, below}
+use Rattle.ground.specs.Outcome.{Outcome, verdictOf, next, nextOf}
+use Rattle.ground.specs.Outcome.Outcome.{good}
+use Rattle.ground.specs.declared.Verdict.{Verdict}
+use Rattle.ground.specs.declared.Verdict.the-variants.{Taken, Refused}
+use Rattle.ground.proofs.TestLaws.{and-left, and-right}
+use Rattle.ground.proofs.ListLaws.{each-alike}
+use Rattle.ground.proofs.EveryLaws.{every-getD}
+use Rattle.ground.proofs.NumbersLaws.{below-from}
+use Rattle.fields.specs.Refusals.{wrongShape, tooShort}
+use Rattle.envelopes.specs.Envelope.{checkEnvelope, shownEnvelope}
+use Rattle.envelopes.specs.Parts.{relationCount, columnsIn}
+use Rattle.envelopes.specs.Rules.{Within}
+use Rattle.envelopes.specs.declared.places.Place.{Place}
+use Rattle.envelopes.specs.declared.envelope.Envelope.{Envelope}
+use Rattle.envelopes.specs.declared.reading.EnvelopeRead.{EnvelopeRead}
+use Rattle.envelopes.proofs.ReadingLaws.{read-taken, read-refused}
+use Rattle.envelopes.proofs.ExactEnvelope.{check-sound}
+use Rattle.papers.specs.Steps.{legal, isPlace}
+use Rattle.papers.specs.Programs.{noStep, stepsOf, programAgainst, programBytes, readProgram, checkProgram, shownProgram}
+use Rattle.papers.specs.declared.steps.Step.{Step}
+use Rattle.papers.specs.declared.programs.Program.{Program}
+use Rattle.papers.specs.declared.programs.ProgramRead.{ProgramRead}
+use Rattle.papers.proofs.StepLaws.{legal-step}
+use Rattle.papers.proofs.ProgramCodeLaws.{program-taken, program-refused}
+use Rattle.papers.proofs.ExactPrograms.{program-bytes, program-exact}
+use Rattle.semijoin.specs.Offsets.{rowCount, firstMark, marksAt, rowsAt}
+use Rattle.semijoin.specs.Shape.{shaped}
+use Rattle.semijoin.specs.Local.{openedAt, opened}
+use Rattle.semijoin.specs.Marks.{stepped, steppedAll, reducedBy, sieved, valuesOf}
+use Rattle.semijoin.specs.Run.{runMarks, runChecked, runOutcome, marksAfter}
+
+-- ---- a legal step is one that can be taken
+
+place-inside : (e : Envelope) (a : Place) → isPlace e a ≡ true → (a .relation < relationCount e) × (a .column < columnsIn e (a .relation))
+unfolding isPlace
+place-inside e a t = (ltb-true _ _ (and-left _ _ t), ltb-true _ _ (and-right (ltb (a .relation) (relationCount e)) _ t))
+
+pub record Ready (e : Envelope) (s : Step) : Type 0 where
+  pub left : (s .left .relation < relationCount e) × (s .left .column < columnsIn e (s .left .relation))
+  pub right : (s .right .relation < relationCount e) × (s .right .column < columnsIn e (s .right .relation))
+  pub differ : s .left .relation ≡ s .right .relation → ⊥
+
+pub legal-ready : (e : Envelope) (s : Step) → legal e s ≡ true → Ready e s
+legal-ready e s t =
+    let k = legal-step e s t in
+    record { left = place-inside e (s .left) (k .left); right = place-inside e (s .right) (k .right); differ = k .differ }
+
+pub legal-used : (e : Envelope) (p : Program) → Every (λ (s : Step). legal e s ≡ true) (stepsOf p)
+    → Every (λ (s : Step). legal e s ≡ true) (take (p .count) (p .steps))
+unfolding stepsOf
+legal-used e p h = h
+
+stepped-long : (e : Envelope) (words : List ℕ) (s : Step) (marks : List ℕ) → length (stepped e words s marks) ≡ length marks
+unfolding stepped reducedBy
+stepped-long e words s marks =
+    length-sets marks (firstMark e words (s .left .relation))
+    (sieved (valuesOf e words marks (s .right)) (s .left .column) (marksAt e words (s .left .relation) marks) (rowsAt e words (s .left .relation)))
+
+-- ---- steps one after the other
+
+pub record Taking (e : Envelope) (words : List ℕ) (steps : List Step) (before : List ℕ) (i : ℕ) (marks : List ℕ) : Type 0 where
+  pub long : length marks ≡ length before
+  pub same : steppedAll e words (drop i steps) marks ≡ steppedAll e words steps before
+
+module _ (e : Envelope) (words : List ℕ) (l : List Step) (n : ℕ) (before : List ℕ) where
+  pub taking-start : Taking e words (take n l) before 0 before
+  taking-start = record { long = refl; same = refl }
+
+  module _ (end : ℕ) (size : length l ≡ 156) (u : end ≡ min 156 n) where
+    used : length (take n l) ≡ end
+    used = length-take n l ∙ rw (size, u) (omega arith)
+
+    module _ (i : ℕ) (marks : List ℕ) (g : Taking e words (take n l) before i marks) where
+      pub taking-done : end ≤ i → marks ≡ steppedAll e words (take n l) before
+      taking-done h =
+          let k : length (take n l) ≤ i = omega (arith, used) in
+          sym (ap (λ (t : List Step). steppedAll e words t marks) (drop-of-length-le (take n l) k)) ∙ g .same
+
+      module _ (h : i < end) where
+        is-step : getD (take n l) i noStep ≡ getD l i noStep
+        is-step = getD-take n l i noStep (omega (arith, u))
+
+        pub taking-ready : Every (λ (s : Step). legal e s ≡ true) (take n l) → Ready e (getD l i noStep)
+        taking-ready all =
+            let k : i < length (take n l) = omega (arith, used) in
+            legal-ready e (getD l i noStep)
+            (rw is-step at (every-getD (λ (s : Step). legal e s ≡ true) (take n l) i noStep k all))
+
+        pub taking-more : (after : List ℕ) → after ≡ stepped e words (getD l i noStep) marks → Taking e words (take n l) before (i + 1) after
+        taking-more after a =
+            let k : i < length (take n l) = omega (arith, used) in
+            record {
+              long = ap length a ∙ stepped-long e words (getD l i noStep) marks ∙ g .long;
+              same =
+                  rw (add-one i, a, ← is-step)
+                  (sym (ap (λ (t : List Step). steppedAll e words t marks) (drop-cons (take n l) i noStep k)) ∙ g .same);
+            }
+
+-- ---- the run of a good program on a good envelope
+
+module _ (e : Envelope) (p : Program) (words marks : List ℕ) where
+  abbrev Ran : Verdict → List ℕ → Type 0
+  Ran v after = (v ≡ verdictOf (runChecked e p words marks)) × (after ≡ marksAfter marks (runChecked e p words marks))
+
+  module _ (b : Bool) (f : b ≡ shaped e words) where
+    pub run-shapeless : not b ≡ true → Ran (Refused wrongShape 0) marks
+    unfolding runChecked verdictOf marksAfter
+    run-shapeless t = rw (← f, not-true b t) (refl, refl)
+
+    module _ (n : ℕ) (g : n ≡ rowCount e words) where
+      pub run-short : not b ≡ false → length marks < n → Ran (Refused tooShort 0) marks
+      unfolding runChecked verdictOf marksAfter
+      run-short t h =
+          let k : length marks < rowCount e words = omega arith in
+          rw (← f, not-false b t, lt-ltb (length marks) (rowCount e words) k) (refl, refl)
+
+      everywhere : opened e words (λ r. getD (replicate 8 true) r false) ≡ opened e words (λ _. true)
+      unfolding opened
+      everywhere =
+          each-alike _ _ (below (relationCount e)) λ r m.
+          ap (λ (q : Bool). openedAt e words q r) (is-true r (omega (arith, below-from (relationCount e) m, min-le-left 8 (e .«relation_count»))))
+        where
+          is-true : (r : ℕ) → r < 8 → getD (replicate 8 true) r false ≡ true
+          is-true zero h = refl
+          is-true (suc zero) h = refl
+          is-true (suc (suc zero)) h = refl
+          is-true (suc (suc (suc zero))) h = refl
+          is-true (suc (suc (suc (suc zero)))) h = refl
+          is-true (suc (suc (suc (suc (suc zero))))) h = refl
+          is-true (suc (suc (suc (suc (suc (suc zero)))))) h = refl
+          is-true (suc (suc (suc (suc (suc (suc (suc zero))))))) h = refl
+          is-true (suc (suc (suc (suc (suc (suc (suc (suc r)))))))) h = absurd (omega arith)
+
+      pub run-whole : not b ≡ false → n ≤ length marks → (between after : List ℕ)
+          → between ≡ sets marks 0 (opened e words (λ r. getD (replicate 8 true) r false))
+          → after ≡ steppedAll e words (take (p .count) (p .steps)) between → Ran Taken after
+      unfolding runChecked verdictOf marksAfter runMarks stepsOf
+      run-whole t h between after k a =
+          let j : rowCount e words ≤ length marks = omega arith in
+          rw (← f, not-false b t, le-ltb (length marks) (rowCount e words) j)
+          (refl, a ∙ ap (steppedAll e words (take (p .count) (p .steps))) (k ∙ ap (sets marks 0) everywhere))
+
+-- ---- the whole run
+
+module _ (e : Envelope) (p : Program) (words marks : List ℕ) (c : EnvelopeRead) (g : c ≡ shownEnvelope (checkEnvelope e)) where
+  abbrev RanWhole : Verdict → List ℕ → Type 0
+  RanWhole v after = (v ≡ verdictOf (runOutcome e p words marks)) × (after ≡ marksAfter marks (runOutcome e p words marks))
+
+  pub run-envelope : (m q : ℕ) → c .verdict ≡ Refused m q → RanWhole (Refused m q) marks
+  unfolding runOutcome verdictOf marksAfter
+  run-envelope m q h = rw (read-refused (checkEnvelope e) c m q g h) (refl, refl)
+
+  module _ (h : c .verdict ≡ Taken) (x : ProgramRead) (k : x ≡ shownProgram (checkProgram e p)) where
+    taken : checkEnvelope e ≡ good (c .envelope) (nextOf (checkEnvelope e))
+    taken = read-taken (checkEnvelope e) c g h
+
+    against : checkProgram e p ≡ programAgainst (c .envelope) (programBytes p)
+    unfolding checkProgram readProgram
+    against = ap (λ (o : Outcome Envelope). next o (λ f _. programAgainst f (programBytes p))) taken
+
+    as-run : runOutcome e p words marks ≡ next (checkProgram e p) (λ q _. runChecked (c .envelope) q words marks)
+    unfolding runOutcome
+    as-run =
+        ap (λ (o : Outcome Envelope). next o (λ f _. next (programAgainst f (programBytes p)) (λ q _. runChecked f q words marks))) taken
+        ∙ ap (λ (o : Outcome Program). next o (λ q _. runChecked (c .envelope) q words marks)) (sym against)
+
+    pub run-program : (m q : ℕ) → x .verdict ≡ Refused m q → RanWhole (Refused m q) marks
+    unfolding verdictOf marksAfter
+    run-program m q v = rw (as-run, program-refused (checkProgram e p) x m q k v) (refl, refl)
+
+    module _ (v : x .verdict ≡ Taken) where
+      good-program : checkProgram e p ≡ good (x .program) (nextOf (checkProgram e p))
+      good-program = program-taken (checkProgram e p) x k v
+
+      pub run-within : Within (c .envelope)
+      run-within = check-sound e (c .envelope) (nextOf (checkEnvelope e)) taken .0 .0
+
+      pub run-legal : Every (λ (s : Step). legal (c .envelope) s ≡ true) (stepsOf (x .program))
+      run-legal =
+          program-exact (c .envelope) run-within (programBytes p) (x .program) (nextOf (checkProgram e p)) (program-bytes p) .0
+          (sym against ∙ good-program) .0 .0 .steps
+
+      pub run-good : (r : Verdict) (after : List ℕ) → r ≡ verdictOf (runChecked (c .envelope) (x .program) words marks)
+          → after ≡ marksAfter marks (runChecked (c .envelope) (x .program) words marks) → RanWhole r after
+      run-good r after a b = rw (as-run, good-program) (a, b)

@@ -1,0 +1,22 @@
+use Rattle.semijoin.proofs.LocalCodeLaws.{unlike-by}
+use borrow.Author.Needs.{needs}
+use Rattle.semijoin.proofs.local.breaks_equality.Statement.{statement}
+use Rattle.semijoin.proofs.local.breaks_equality.Tie as tie
+use Rattle.semijoin.proofs.local.breaks_equality.Reads as reads
+use Rattle.semijoin.proofs.local.breaks_equality.Lts as lts
+use Rattle.semijoin.proofs.rows.word_or_zero.Reads as word-or-zero-reads
+
+-- src/local.rt:34:9
+word-or-zero-requires : tie.Need-word-or-zero-requires
+word-or-zero-requires c κs = search needs
+
+-- src/local.rt:35:9
+word-or-zero-requires-2 : tie.Need-word-or-zero-requires-2
+word-or-zero-requires-2 c κs = search needs
+
+-- src/local.rt:30:1
+returns : tie.Need-returns
+returns c = search (unlike-by, needs)
+
+pub breaks-equality-spec : {M : Type 1} → statement M
+breaks-equality-spec = tie.close (tie.spec word-or-zero-requires word-or-zero-requires-2 returns)

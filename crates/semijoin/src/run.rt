@@ -1,0 +1,82 @@
+// The one-place run: every check first, then local operations on all relations, then every step.
+use envelopes::envelope::Envelope;
+use fields::refusals;
+use ground::Verdict;
+use papers::programs::Program;
+use papers::steps::Step;
+ghost use mathlib.Core.Path.{_≡_};
+ghost use mathlib.Core.Bool.{true};
+ghost use Prim.Native.Nat.{_≤_};
+ghost use lib.ListN.{length, take};
+ghost use Rattle.ground.specs.Lists.{Every};
+ghost use Rattle.ground.specs.Outcome.{verdictOf};
+ghost use Rattle.envelopes.specs.Rules.{Within};
+ghost use Rattle.papers.specs.Steps.{legal};
+ghost use Rattle.papers.specs.Programs.{stepsOf};
+ghost use Rattle.semijoin.specs.Offsets.{rowCount};
+ghost use Rattle.semijoin.specs.Shape.{shaped};
+ghost use Rattle.semijoin.specs.Marks.{steppedAll};
+ghost use Rattle.semijoin.specs.Run.{runOutcome, marksAfter, runChecked};
+
+fn take_steps(envelope: Envelope, steps: [Step; 156], n: u8, tables: &[u32], marks: &mut [u8])
+    requires { ⌜ (shaped envelope (now tables) ≡ true) × (rowCount envelope (now tables) ≤ length (now marks)) × Every (λ (s : Step). legal envelope s ≡ true) (take n steps) ⌝ }
+    ensures { λ r. ⌜ now (marks .exit) ≡ steppedAll envelope (now (tables .entry)) (take n steps) (now (marks .entry)) ⌝ }
+{
+    let end = envelopes::parts::in_use(156, n);
+    let mut i: usize = 0;
+    while i < end {
+        let step = steps[i];
+        crate::marks::take_step(envelope, step, tables, marks);
+        i += 1;
+    }
+}
+
+// The run of a program on an envelope, both found good: 10, 11.
+fn run_checked(envelope: Envelope, program: Program, tables: &[u32], marks: &mut [u8]) -> Verdict
+    requires { ⌜ Within envelope × Every (λ (s : Step). legal envelope s ≡ true) (stepsOf program) ⌝ }
+    ensures { λ r. ⌜ (r ≡ verdictOf (runChecked envelope program (now (tables .entry)) (now (marks .entry)))) × (now (marks .exit) ≡ marksAfter (now (marks .entry)) (runChecked envelope program (now (tables .entry)) (now (marks .entry)))) ⌝ }
+{
+    if !crate::shape::is_shaped(envelope, tables) {
+        return Verdict::Refused {
+            number: refusals::WRONG_SHAPE,
+            position: 0,
+        };
+    }
+    if marks.len() < crate::offsets::row_count(envelope, tables) {
+        return Verdict::Refused {
+            number: refusals::TOO_SHORT,
+            position: 0,
+        };
+    }
+    crate::local::open_marks(envelope, tables, [true; 8], marks);
+    let steps = program.steps;
+    take_steps(envelope, steps, program.count, tables, marks);
+    Verdict::Taken
+}
+
+pub fn run_in_one_place(
+    envelope: Envelope,
+    program: Program,
+    tables: &[u32],
+    marks: &mut [u8],
+) -> Verdict
+    ensures { λ r. ⌜ (r ≡ verdictOf (runOutcome envelope program (now (tables .entry)) (now (marks .entry)))) × (now (marks .exit) ≡ marksAfter (now (marks .entry)) (runOutcome envelope program (now (tables .entry)) (now (marks .entry)))) ⌝ }
+{
+    let read = envelopes::reading::check_envelope(envelope);
+    let verdict = read.verdict;
+    match verdict {
+        Verdict::Refused { number, position } => Verdict::Refused { number, position },
+        Verdict::Taken => {
+            let checked = read.envelope;
+            let against = papers::programs::check_program(envelope, program);
+            let found = against.verdict;
+            match found {
+                Verdict::Refused { number, position } => Verdict::Refused { number, position },
+                Verdict::Taken => {
+                    let good = against.program;
+                    run_checked(checked, good, tables, marks)
+                }
+            }
+        }
+    }
+}
