@@ -14,14 +14,14 @@ use Rattle.fields.specs.Numbers.{numberIn, shownNumber}
 use Rattle.fields.specs.declared.numbers.NumberRead.{NumberRead}
 use Rattle.fields.specs.declared.numbers.NumberRead.the-variants as n
 use Rattle.fields.proofs.NumberLaws.{number-good, number-bad}
-use Rattle.envelopes.specs.Relations.{noRelation}
-use Rattle.envelopes.specs.Places.{noPlace}
-use Rattle.envelopes.specs.Clauses.{noClause}
+use Rattle.entries.specs.Relations.{noRelation}
+use Rattle.entries.specs.Places.{noPlace}
+use Rattle.entries.specs.Clauses.{noClause}
 use Rattle.envelopes.specs.Parts.{noEnvelope, withSizes, withRelations, withClauses, withTargets}
 use Rattle.envelopes.specs.Envelope.{filled, listInto, shownPart}
-use Rattle.envelopes.specs.declared.places.Place.{Place}
-use Rattle.envelopes.specs.declared.relations.Relation.{Relation}
-use Rattle.envelopes.specs.declared.clauses.Clause.{Clause}
+use Rattle.entries.specs.declared.places.Place.{Place}
+use Rattle.entries.specs.declared.relations.Relation.{Relation}
+use Rattle.entries.specs.declared.clauses.Clause.{Clause}
 use Rattle.envelopes.specs.declared.envelope.Envelope.{Envelope}
 use Rattle.envelopes.specs.declared.envelope.EnvelopePart.{EnvelopePart}
 

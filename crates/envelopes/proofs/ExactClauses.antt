@@ -15,15 +15,15 @@ use Rattle.fields.specs.Refusals.{twoDomains, sameColumn}
 use Rattle.fields.specs.Exact.{Exact}
 use Rattle.fields.proofs.ExactReading.{chained, done, refused, picked, restated}
 use Rattle.fields.proofs.ExactNumbers.{number-exact, in-exact}
-use Rattle.envelopes.specs.Relations.{noRelation, pastRelation, noColumn}
-use Rattle.envelopes.specs.Places.{noPlace, samePlace, placeBytes}
-use Rattle.envelopes.specs.Clauses.{clause, domainOf, selectionAt, joined, joinAt, clauseAt, kindBytes, clauseBytes}
+use Rattle.entries.specs.Relations.{noRelation, pastRelation, noColumn}
+use Rattle.entries.specs.Places.{noPlace, samePlace, placeBytes}
+use Rattle.entries.specs.Clauses.{clause, domainOf, selectionAt, joined, joinAt, clauseAt, kindBytes, clauseBytes}
 use Rattle.envelopes.specs.Rules.{PlaceWithin, KindWithin, ClauseWithin}
-use Rattle.envelopes.specs.declared.places.Place.{Place}
-use Rattle.envelopes.specs.declared.relations.Relation.{Relation}
-use Rattle.envelopes.specs.declared.clauses.Clause.{Clause}
-use Rattle.envelopes.specs.declared.clauses.ClauseKind.{ClauseKind}
-use Rattle.envelopes.specs.declared.clauses.ClauseKind.the-variants.{Selection, Join}
+use Rattle.entries.specs.declared.places.Place.{Place}
+use Rattle.entries.specs.declared.relations.Relation.{Relation}
+use Rattle.entries.specs.declared.clauses.Clause.{Clause}
+use Rattle.entries.specs.declared.clauses.ClauseKind.{ClauseKind}
+use Rattle.entries.specs.declared.clauses.ClauseKind.the-variants.{Selection, Join}
 use Rattle.envelopes.proofs.ExactPlaces.{named-exact}
 
 -- ---- the parts of a clause: its byte, its first column, a join's second, a selection's value; the bytes behind the first

@@ -22,16 +22,16 @@ use Rattle.fields.specs.Numbers.{numberIn}
 use Rattle.fields.specs.Exact.{Reads, Exact}
 use Rattle.fields.proofs.ExactReading.{done, refused, picked, restated, last, whole-paper, chained}
 use Rattle.fields.proofs.ExactNumbers.{in-exact, counted-exact, head-exact}
-use Rattle.envelopes.specs.Relations.{noRelation, relationAt, relationBytes}
-use Rattle.envelopes.specs.Places.{noPlace, placeAt, placeBytes}
-use Rattle.envelopes.specs.Clauses.{noClause, clauseAt, clauseBytes}
+use Rattle.entries.specs.Relations.{noRelation, relationAt, relationBytes}
+use Rattle.entries.specs.Places.{noPlace, placeAt, placeBytes}
+use Rattle.entries.specs.Clauses.{noClause, clauseAt, clauseBytes}
 use Rattle.envelopes.specs.Parts.{sizesOf, relationsOf, clausesOf, targetsOf, relationCount, noEnvelope, withVersion, withSizes, withRelations, withClauses, withTargets}
 use Rattle.envelopes.specs.Kept.{keptColumns, firstBare}
 use Rattle.envelopes.specs.Envelope.{CPN, filled, listInto, sizeAt, ended, targetsThen, clausesThen, relationsThen, sizesThen, envelopeFrom, readEnvelope, envelopeBytes, checkEnvelope}
 use Rattle.envelopes.specs.Rules.{Between, RelationWithin, PlaceWithin, ClauseWithin, Within, tidyRelation, tidy}
-use Rattle.envelopes.specs.declared.places.Place.{Place}
-use Rattle.envelopes.specs.declared.relations.Relation.{Relation}
-use Rattle.envelopes.specs.declared.clauses.Clause.{Clause}
+use Rattle.entries.specs.declared.places.Place.{Place}
+use Rattle.entries.specs.declared.relations.Relation.{Relation}
+use Rattle.entries.specs.declared.clauses.Clause.{Clause}
 use Rattle.envelopes.specs.declared.envelope.Envelope.{Envelope}
 use Rattle.envelopes.proofs.WrittenBytes.{envelope-bytes}
 use Rattle.envelopes.proofs.ExactPlaces.{named-exact}

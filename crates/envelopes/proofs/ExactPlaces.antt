@@ -10,11 +10,11 @@ use Rattle.ground.proofs.CollectingLaws.{padded-inside}
 use Rattle.fields.specs.Exact.{Exact}
 use Rattle.fields.proofs.ExactReading.{chained, done, restated}
 use Rattle.fields.proofs.ExactNumbers.{below-exact}
-use Rattle.envelopes.specs.Relations.{pastRelation, noRelation, columnCount}
-use Rattle.envelopes.specs.Places.{place, placeAt, placeBytes}
+use Rattle.entries.specs.Relations.{pastRelation, noRelation, columnCount}
+use Rattle.entries.specs.Places.{place, placeAt, placeBytes}
 use Rattle.envelopes.specs.Rules.{PlaceWithin}
-use Rattle.envelopes.specs.declared.places.Place.{Place}
-use Rattle.envelopes.specs.declared.relations.Relation.{Relation}
+use Rattle.entries.specs.declared.places.Place.{Place}
+use Rattle.entries.specs.declared.relations.Relation.{Relation}
 
 -- a relation of the count, and a column of that relation
 abbrev pub Named : ℕ → List Relation → Place → Type 0

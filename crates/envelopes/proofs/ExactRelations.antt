@@ -10,10 +10,10 @@ use Rattle.ground.proofs.CollectingLaws.{padded-inside}
 use Rattle.fields.specs.Exact.{Exact}
 use Rattle.fields.proofs.ExactReading.{chained, done, restated, numbered-exact}
 use Rattle.fields.proofs.ExactNumbers.{below-exact, in-exact}
-use Rattle.envelopes.specs.Relations.{columnsOf, columnAt, columnBytes, relationWith, columnsThen, relationAt, relationBytes}
+use Rattle.entries.specs.Relations.{columnsOf, columnAt, columnBytes, relationWith, columnsThen, relationAt, relationBytes}
 use Rattle.envelopes.specs.Rules.{ColumnWithin, RelationWithin, tidyRelation}
-use Rattle.envelopes.specs.declared.relations.Column.{Column}
-use Rattle.envelopes.specs.declared.relations.Relation.{Relation}
+use Rattle.entries.specs.declared.relations.Column.{Column}
+use Rattle.entries.specs.declared.relations.Relation.{Relation}
 
 -- "0 exactly when rows are 0" is a lower limit
 lower : (rows distinct : ℕ) → (distinct ≡ 0 → rows ≡ 0) → min 1 rows ≤ distinct

@@ -10,16 +10,16 @@ use Rattle.ground.specs.Lists.{each}
 use Rattle.ground.specs.Bytes.{bytesOf}
 use Rattle.ground.proofs.EveryLaws.{every-map, every-take}
 use Rattle.ground.proofs.ByteLaws.{Tells, number-tells, all-tell}
-use Rattle.envelopes.specs.Relations.{columnsOf, columnBytes, relationWith, relationBytes}
-use Rattle.envelopes.specs.Places.{place, placeBytes}
-use Rattle.envelopes.specs.Clauses.{clause, kindBytes, clauseBytes}
+use Rattle.entries.specs.Relations.{columnsOf, columnBytes, relationWith, relationBytes}
+use Rattle.entries.specs.Places.{place, placeBytes}
+use Rattle.entries.specs.Clauses.{clause, kindBytes, clauseBytes}
 use Rattle.envelopes.specs.Rules.{ColumnWithin, RelationWithin, PlaceWithin, KindWithin, tidyRelation}
 use Rattle.envelopes.specs.Fits.{PlaceFits, ColumnFits, RelationFits, KindFits, ClauseFits}
-use Rattle.envelopes.specs.declared.places.Place.{Place}
-use Rattle.envelopes.specs.declared.relations.Column.{Column}
-use Rattle.envelopes.specs.declared.relations.Relation.{Relation}
-use Rattle.envelopes.specs.declared.clauses.ClauseKind.{ClauseKind}
-use Rattle.envelopes.specs.declared.clauses.ClauseKind.the-variants.{Selection, Join}
+use Rattle.entries.specs.declared.places.Place.{Place}
+use Rattle.entries.specs.declared.relations.Column.{Column}
+use Rattle.entries.specs.declared.relations.Relation.{Relation}
+use Rattle.entries.specs.declared.clauses.ClauseKind.{ClauseKind}
+use Rattle.entries.specs.declared.clauses.ClauseKind.the-variants.{Selection, Join}
 
 pub place-tells : Tells placeBytes PlaceFits PlaceFits (λ a. a)
 unfolding placeBytes

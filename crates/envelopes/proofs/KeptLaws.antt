@@ -11,13 +11,13 @@ use Rattle.ground.specs.Lists.{any, empty, filter, below}
 use Rattle.ground.specs.Searching.{firstFrom, someFrom}
 use Rattle.ground.proofs.SearchingLaws.{Looking, first-more, first-found, first-none}
 use Rattle.ground.proofs.CollectingLaws.{Collecting, Picking, picking-below, picking-count, number-yes, number-no, number-done}
-use Rattle.envelopes.specs.Places.{place, samePlace}
+use Rattle.entries.specs.Places.{place, samePlace}
 use Rattle.envelopes.specs.Parts.{clausesOf, targetsOf, relationCount, columnsIn}
 use Rattle.envelopes.specs.Kept.{names, kept, keptColumns, firstBare, shownColumns, shownBare}
-use Rattle.envelopes.specs.declared.places.Place.{Place}
-use Rattle.envelopes.specs.declared.clauses.Clause.{Clause}
-use Rattle.envelopes.specs.declared.clauses.ClauseKind.{ClauseKind}
-use Rattle.envelopes.specs.declared.clauses.ClauseKind.the-variants.{Selection, Join}
+use Rattle.entries.specs.declared.places.Place.{Place}
+use Rattle.entries.specs.declared.clauses.Clause.{Clause}
+use Rattle.entries.specs.declared.clauses.ClauseKind.{ClauseKind}
+use Rattle.entries.specs.declared.clauses.ClauseKind.the-variants.{Selection, Join}
 use Rattle.envelopes.specs.declared.kept.Columns.{Columns}
 use Rattle.envelopes.specs.declared.kept.Bare.the-variants.{Lowest, None}
 use Rattle.envelopes.specs.declared.envelope.Envelope.{Envelope}

@@ -4,9 +4,9 @@ use mathlib.Core.Path.{_≡_, ap, sym, _∙_}
 use Prim.Native.Nat.{ℕ, _≤_, _<_}
 use lib.ListN.{getD}
 use Rattle.ground.proofs.UsedLaws.{used-inside, used-outside}
-use Rattle.envelopes.specs.Relations.{pastRelation, columnCount}
+use Rattle.entries.specs.Relations.{pastRelation, columnCount}
 use Rattle.envelopes.specs.Parts.{relationsOf, columnsIn}
-use Rattle.envelopes.specs.declared.relations.Relation.{Relation}
+use Rattle.entries.specs.declared.relations.Relation.{Relation}
 use Rattle.envelopes.specs.declared.envelope.Envelope.{Envelope}
 
 module _ (e : Envelope) (r : ℕ) where

@@ -8,9 +8,9 @@ use lib.Dec.{eqb}
 use borrow.Author.Tests.{lt-ltb, le-ltb}
 use Rattle.ground.specs.Searching.{someFrom}
 use Rattle.ground.proofs.SearchingLaws.{Looking, some-more, some-found, some-none, any-numbers}
-use Rattle.envelopes.specs.Relations.{pastRelation}
+use Rattle.entries.specs.Relations.{pastRelation}
 use Rattle.envelopes.specs.Sites.{siteOf, isAt, holds}
-use Rattle.envelopes.specs.declared.relations.Relation.{Relation}
+use Rattle.entries.specs.declared.relations.Relation.{Relation}
 use Rattle.envelopes.specs.declared.envelope.Envelope.{Envelope}
 use Rattle.envelopes.proofs.PartLaws.{relation-inside, relation-outside}
 

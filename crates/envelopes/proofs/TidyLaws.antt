@@ -11,20 +11,20 @@ use Rattle.ground.specs.Lists.{Every, each, empty, below}
 use Rattle.ground.proofs.ListLaws.{any-alike, getD-map, map-alike, each-map, each-alike}
 use Rattle.ground.proofs.EveryLaws.{every-map, every-mapped, every-at, every-getD}
 use Rattle.ground.proofs.CollectingLaws.{padded-take, padded-inside}
-use Rattle.envelopes.specs.Relations.{noColumn, noRelation, pastRelation, columnCount, columnsOf, relationBytes}
-use Rattle.envelopes.specs.Places.{noPlace}
-use Rattle.envelopes.specs.Clauses.{noClause, domainOf}
+use Rattle.entries.specs.Relations.{noColumn, noRelation, pastRelation, columnCount, columnsOf, relationBytes}
+use Rattle.entries.specs.Places.{noPlace}
+use Rattle.entries.specs.Clauses.{noClause, domainOf}
 use Rattle.envelopes.specs.Parts.{sizesOf, relationsOf, clausesOf, targetsOf, relationCount, columnsIn, noEnvelope, withVersion, withSizes, withRelations, withClauses, withTargets}
 use Rattle.envelopes.specs.Sites.{siteOf, isAt, holds}
 use Rattle.envelopes.specs.Kept.{kept, keptColumns}
 use Rattle.envelopes.specs.Envelope.{envelopeBytes}
 use Rattle.envelopes.specs.Rules.{RelationWithin, PlaceWithin, KindWithin, ClauseWithin, Within, tidyRelation, tidy}
-use Rattle.envelopes.specs.declared.places.Place.{Place}
-use Rattle.envelopes.specs.declared.relations.Column.{Column}
-use Rattle.envelopes.specs.declared.relations.Relation.{Relation}
-use Rattle.envelopes.specs.declared.clauses.Clause.{Clause}
-use Rattle.envelopes.specs.declared.clauses.ClauseKind.{ClauseKind}
-use Rattle.envelopes.specs.declared.clauses.ClauseKind.the-variants.{Selection, Join}
+use Rattle.entries.specs.declared.places.Place.{Place}
+use Rattle.entries.specs.declared.relations.Column.{Column}
+use Rattle.entries.specs.declared.relations.Relation.{Relation}
+use Rattle.entries.specs.declared.clauses.Clause.{Clause}
+use Rattle.entries.specs.declared.clauses.ClauseKind.{ClauseKind}
+use Rattle.entries.specs.declared.clauses.ClauseKind.the-variants.{Selection, Join}
 use Rattle.envelopes.specs.declared.envelope.Envelope.{Envelope}
 use Rattle.envelopes.proofs.PartLaws.{relation-inside}
 use Rattle.envelopes.proofs.ExactRelations.{columns-of-with}

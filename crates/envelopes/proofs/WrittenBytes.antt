@@ -2,16 +2,16 @@
 use native.Mathlib.Omega.{arith}
 use Rattle.ground.specs.Bytes.{Bytes}
 use Rattle.ground.proofs.ByteLaws.{bytes-bytes, bytes-append, bytes-each}
-use Rattle.envelopes.specs.Relations.{columnBytes, relationBytes}
-use Rattle.envelopes.specs.Places.{placeBytes}
-use Rattle.envelopes.specs.Clauses.{kindBytes, clauseBytes}
+use Rattle.entries.specs.Relations.{columnBytes, relationBytes}
+use Rattle.entries.specs.Places.{placeBytes}
+use Rattle.entries.specs.Clauses.{kindBytes, clauseBytes}
 use Rattle.envelopes.specs.Envelope.{CPN, envelopeBytes}
-use Rattle.envelopes.specs.declared.places.Place.{Place}
-use Rattle.envelopes.specs.declared.relations.Column.{Column}
-use Rattle.envelopes.specs.declared.relations.Relation.{Relation}
-use Rattle.envelopes.specs.declared.clauses.Clause.{Clause}
-use Rattle.envelopes.specs.declared.clauses.ClauseKind.{ClauseKind}
-use Rattle.envelopes.specs.declared.clauses.ClauseKind.the-variants.{Selection, Join}
+use Rattle.entries.specs.declared.places.Place.{Place}
+use Rattle.entries.specs.declared.relations.Column.{Column}
+use Rattle.entries.specs.declared.relations.Relation.{Relation}
+use Rattle.entries.specs.declared.clauses.Clause.{Clause}
+use Rattle.entries.specs.declared.clauses.ClauseKind.{ClauseKind}
+use Rattle.entries.specs.declared.clauses.ClauseKind.the-variants.{Selection, Join}
 use Rattle.envelopes.specs.declared.envelope.Envelope.{Envelope}
 
 pub place-bytes : (a : Place) → Bytes (placeBytes a)

@@ -15,9 +15,9 @@ use Rattle.fields.specs.Refusals.{leftOver, noKeptColumn}
 use Rattle.fields.specs.Numbers.{numberIn, headOf}
 use Rattle.fields.specs.Puts.{writtenOf, writtenIn}
 use Rattle.fields.specs.declared.puts.Written.{Written}
-use Rattle.envelopes.specs.Relations.{relationAt, relationBytes}
-use Rattle.envelopes.specs.Places.{placeAt, placeBytes}
-use Rattle.envelopes.specs.Clauses.{clauseAt, clauseBytes}
+use Rattle.entries.specs.Relations.{relationAt, relationBytes}
+use Rattle.entries.specs.Places.{placeAt, placeBytes}
+use Rattle.entries.specs.Clauses.{clauseAt, clauseBytes}
 use Rattle.envelopes.specs.Parts.{sizesOf, relationsOf, clausesOf, targetsOf, relationCount, noEnvelope, withVersion, withSizes, withRelations, withClauses, withTargets}
 use Rattle.envelopes.specs.Kept.{firstBare}
 use Rattle.envelopes.specs.declared.envelope.Envelope.{Envelope}

@@ -3,12 +3,12 @@ use Prim.Native.Nat.{ℕ, _<_, _^_}
 use mathlib.Core.Path.{_≡_}
 use lib.ListN.{length}
 use Rattle.ground.specs.Lists.{Every}
-use Rattle.envelopes.specs.declared.places.Place.{Place}
-use Rattle.envelopes.specs.declared.relations.Column.{Column}
-use Rattle.envelopes.specs.declared.relations.Relation.{Relation}
-use Rattle.envelopes.specs.declared.clauses.Clause.{Clause}
-use Rattle.envelopes.specs.declared.clauses.ClauseKind.{ClauseKind}
-use Rattle.envelopes.specs.declared.clauses.ClauseKind.the-variants.{Selection, Join}
+use Rattle.entries.specs.declared.places.Place.{Place}
+use Rattle.entries.specs.declared.relations.Column.{Column}
+use Rattle.entries.specs.declared.relations.Relation.{Relation}
+use Rattle.entries.specs.declared.clauses.Clause.{Clause}
+use Rattle.entries.specs.declared.clauses.ClauseKind.{ClauseKind}
+use Rattle.entries.specs.declared.clauses.ClauseKind.the-variants.{Selection, Join}
 use Rattle.envelopes.specs.declared.envelope.Envelope.{Envelope}
 
 pub record PlaceFits (a : Place) : Type 0 where

@@ -7,12 +7,12 @@ use lib.Dec.{ltb}
 use Rattle.ground.specs.Tests.{pick}
 use Rattle.ground.specs.Lists.{filter, any, empty, below, padded}
 use Rattle.ground.specs.Searching.{firstFrom}
-use Rattle.envelopes.specs.Places.{place, samePlace}
+use Rattle.entries.specs.Places.{place, samePlace}
 use Rattle.envelopes.specs.Parts.{clausesOf, targetsOf, relationCount, columnsIn}
-use Rattle.envelopes.specs.declared.places.Place.{Place}
-use Rattle.envelopes.specs.declared.clauses.Clause.{Clause}
-use Rattle.envelopes.specs.declared.clauses.ClauseKind.{ClauseKind}
-use Rattle.envelopes.specs.declared.clauses.ClauseKind.the-variants.{Selection, Join}
+use Rattle.entries.specs.declared.places.Place.{Place}
+use Rattle.entries.specs.declared.clauses.Clause.{Clause}
+use Rattle.entries.specs.declared.clauses.ClauseKind.{ClauseKind}
+use Rattle.entries.specs.declared.clauses.ClauseKind.the-variants.{Selection, Join}
 use Rattle.envelopes.specs.declared.envelope.Envelope.{Envelope}
 use Rattle.envelopes.specs.declared.kept.Columns.{Columns}
 use Rattle.envelopes.specs.declared.kept.Bare.{Bare}

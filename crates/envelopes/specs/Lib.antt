@@ -1,9 +1,6 @@
 -- The envelope of 01's "Papers on the wire": each part's reading from bytes beside the bytes it is written as, the
 -- sizes and rules it keeps, and its kept columns. Read Envelope first; each file above it has one part. Fits has what the
 -- types of the fields say.
-pub mod Places
-pub mod Relations
-pub mod Clauses
 pub mod Parts
 pub mod Sites
 pub mod Kept

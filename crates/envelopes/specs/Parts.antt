@@ -3,12 +3,12 @@ use Prim.Native.Nat.{ℕ, min}
 use mathlib.Core.List.{List}
 use lib.ListN.{length, take, getD, replicate}
 use Rattle.ground.specs.Lists.{padded}
-use Rattle.envelopes.specs.Relations.{noRelation, pastRelation, columnCount}
-use Rattle.envelopes.specs.Places.{noPlace}
-use Rattle.envelopes.specs.Clauses.{noClause}
-use Rattle.envelopes.specs.declared.places.Place.{Place}
-use Rattle.envelopes.specs.declared.relations.Relation.{Relation}
-use Rattle.envelopes.specs.declared.clauses.Clause.{Clause}
+use Rattle.entries.specs.Relations.{noRelation, pastRelation, columnCount}
+use Rattle.entries.specs.Places.{noPlace}
+use Rattle.entries.specs.Clauses.{noClause}
+use Rattle.entries.specs.declared.places.Place.{Place}
+use Rattle.entries.specs.declared.relations.Relation.{Relation}
+use Rattle.entries.specs.declared.clauses.Clause.{Clause}
 use Rattle.envelopes.specs.declared.envelope.Envelope.{Envelope}
 
 -- what is in use: as many as the counts say

@@ -4,7 +4,7 @@ use mathlib.Core.Bool.{Bool, _&&_}
 use lib.ListN.{getD}
 use lib.Dec.{eqb, ltb}
 use Rattle.ground.specs.Lists.{any, below}
-use Rattle.envelopes.specs.Relations.{pastRelation}
+use Rattle.entries.specs.Relations.{pastRelation}
 use Rattle.envelopes.specs.Parts.{relationsOf, relationCount}
 use Rattle.envelopes.specs.declared.envelope.Envelope.{Envelope}
 

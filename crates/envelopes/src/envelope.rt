@@ -1,18 +1,18 @@
 // The envelope's type, and its parts read one by one, each put into the envelope that came so far.
-use crate::clauses::Clause;
-use crate::clauses::ClauseRead;
-use crate::places::Place;
-use crate::places::PlaceRead;
-use crate::relations::Relation;
+use entries::clauses::Clause;
+use entries::clauses::ClauseRead;
+use entries::places::Place;
+use entries::places::PlaceRead;
+use entries::relations::Relation;
 use fields::numbers::NumberRead;
 use fields::numbers::Width;
 use ground::Verdict;
 ghost use mathlib.Core.Path.{_≡_};
 ghost use Prim.Native.Nat.{_≤_};
 ghost use Rattle.ground.specs.Outcome.Outcome.{bad};
-ghost use Rattle.envelopes.specs.Relations.{relationAt};
-ghost use Rattle.envelopes.specs.Places.{placeAt};
-ghost use Rattle.envelopes.specs.Clauses.{clauseAt};
+ghost use Rattle.entries.specs.Relations.{relationAt};
+ghost use Rattle.entries.specs.Places.{placeAt};
+ghost use Rattle.entries.specs.Clauses.{clauseAt};
 ghost use Rattle.envelopes.specs.Parts.{
   noEnvelope,
   withSizes,
@@ -50,13 +50,13 @@ pub struct EnvelopePart {
     pub envelope: Envelope,
 }
 
-pub(crate) fn no_envelope() -> Envelope
+pub fn no_envelope() -> Envelope
     ensures { λ r. ⌜ r ≡ noEnvelope ⌝ }
 {
     let sizes = [0u32; 16];
-    let relations = [crate::relations::no_relation(); 8];
-    let clauses = [crate::clauses::no_clause(); 12];
-    let targets = [crate::places::no_place(); 16];
+    let relations = [entries::relations::no_relation(); 8];
+    let clauses = [entries::clauses::no_clause(); 12];
+    let targets = [entries::places::no_place(); 16];
     Envelope {
         version: 0,
         domain_count: 0,
@@ -121,17 +121,17 @@ pub(crate) fn read_sizes(s: &[u8], at: usize, envelope: Envelope) -> EnvelopePar
 }
 
 fn fill_relations(s: &[u8], at: usize, envelope: Envelope, n: u8) -> EnvelopePart
-    requires { ⌜ (envelope .«domain_count» ≤ 16) × (n ≤ 8) ⌝ }
+    requires { ⌜ n ≤ 8 ⌝ }
     ensures { λ r. ⌜ r ≡ shownPart (filled withRelations (relationAt (envelope .«domain_count») (envelope .sizes) (now (s .entry))) n at envelope) ⌝ }
 {
     let count = envelope.domain_count;
     let sizes = envelope.sizes;
-    let mut out = [crate::relations::no_relation(); 8];
+    let mut out = [entries::relations::no_relation(); 8];
     let mut i: usize = 0;
     let mut p = at;
     let end = n as usize;
     while i < end {
-        let read = crate::relations::read_relation(s, p, count, sizes);
+        let read = entries::relations::read_relation(s, p, count, sizes);
         let verdict = read.verdict;
         match verdict {
             Verdict::Refused { number, position } => {
@@ -156,7 +156,6 @@ fn fill_relations(s: &[u8], at: usize, envelope: Envelope, n: u8) -> EnvelopePar
 }
 
 pub(crate) fn read_relations(s: &[u8], at: usize, envelope: Envelope) -> EnvelopePart
-    requires { ⌜ envelope .«domain_count» ≤ 16 ⌝ }
     ensures { λ r. ⌜ r ≡ shownPart (relationsInto (now (s .entry)) at envelope) ⌝ }
 {
     match fields::numbers::number_in(s, at, Width::One, 1, 8) {
@@ -171,12 +170,12 @@ fn fill_clauses(s: &[u8], at: usize, envelope: Envelope, n: u8) -> EnvelopePart
 {
     let count = envelope.relation_count;
     let relations = envelope.relations;
-    let mut out = [crate::clauses::no_clause(); 12];
+    let mut out = [entries::clauses::no_clause(); 12];
     let mut i: usize = 0;
     let mut p = at;
     let end = n as usize;
     while i < end {
-        match crate::clauses::read_clause(s, p, count, relations) {
+        match entries::clauses::read_clause(s, p, count, relations) {
             ClauseRead::Not { number, position } => {
                 return refused_part(number, position);
             }
@@ -212,12 +211,12 @@ fn fill_targets(s: &[u8], at: usize, envelope: Envelope, n: u8) -> EnvelopePart
 {
     let count = envelope.relation_count;
     let relations = envelope.relations;
-    let mut out = [crate::places::no_place(); 16];
+    let mut out = [entries::places::no_place(); 16];
     let mut i: usize = 0;
     let mut p = at;
     let end = n as usize;
     while i < end {
-        match crate::places::read_place(s, p, count, relations) {
+        match entries::places::read_place(s, p, count, relations) {
             PlaceRead::Not { number, position } => {
                 return refused_part(number, position);
             }

@@ -1,13 +1,13 @@
 // Kept columns: those in a clause or target. Every loop runs to the lesser of a count and its array, so that any
 // struct has an answer.
-use crate::clauses::Clause;
-use crate::clauses::ClauseKind;
 use crate::envelope::Envelope;
-use crate::places::Place;
+use entries::clauses::Clause;
+use entries::clauses::ClauseKind;
+use entries::places::Place;
 ghost use mathlib.Core.Path.{_≡_};
 ghost use lib.ListN.{take};
 ghost use Rattle.ground.specs.Lists.{any};
-ghost use Rattle.envelopes.specs.Places.{samePlace};
+ghost use Rattle.entries.specs.Places.{samePlace};
 ghost use Rattle.envelopes.specs.Kept.{names, kept, keptColumns, shownColumns, shownBare};
 
 // The numbers of some columns, rising: count of them, and 0 behind them.
@@ -26,12 +26,12 @@ fn kind_names(kind: ClauseKind, place: Place) -> bool
     ensures { λ r. ⌜ r ≡ names kind place ⌝ }
 {
     match kind {
-        ClauseKind::Selection { place: a, value: _ } => crate::places::same_place(a, place),
+        ClauseKind::Selection { place: a, value: _ } => entries::places::same_place(a, place),
         ClauseKind::Join { left, right } => {
-            if crate::places::same_place(left, place) {
+            if entries::places::same_place(left, place) {
                 true
             } else {
-                crate::places::same_place(right, place)
+                entries::places::same_place(right, place)
             }
         }
     }
@@ -41,7 +41,7 @@ fn clauses_name(clauses: [Clause; 12], n: u8, place: Place) -> bool
     ensures { λ r. ⌜ r ≡ any (λ (c : Clause). names (c .kind) place) (take n clauses) ⌝ }
 {
     let mut i: usize = 0;
-    let end = crate::parts::in_use(12, n);
+    let end = ground::used::in_use(12, n);
     while i < end {
         let clause = clauses[i];
         let kind = clause.kind;
@@ -57,10 +57,10 @@ fn targets_name(targets: [Place; 16], n: u8, place: Place) -> bool
     ensures { λ r. ⌜ r ≡ any (λ (t : Place). samePlace t place) (take n targets) ⌝ }
 {
     let mut i: usize = 0;
-    let end = crate::parts::in_use(16, n);
+    let end = ground::used::in_use(16, n);
     while i < end {
         let target = targets[i];
-        if crate::places::same_place(target, place) {
+        if entries::places::same_place(target, place) {
             return true;
         }
         i += 1;
@@ -111,7 +111,7 @@ pub fn kept_columns(envelope: Envelope, relation: u8) -> Columns
 pub fn lowest_bare(envelope: Envelope) -> Bare
     ensures { λ r. ⌜ r ≡ shownBare envelope ⌝ }
 {
-    let end = crate::parts::in_use(8, envelope.relation_count);
+    let end = ground::used::in_use(8, envelope.relation_count);
     let mut relation: u8 = 0;
     while (relation as usize) < end {
         let columns = kept_columns(envelope, relation);

@@ -1,11 +1,11 @@
 // An envelope put into a lent buffer, part behind part, as far as the buffer goes. Each function answers the position
 // past the bytes of its part, which is no further than the part's greatest length, so that positions fit.
-use crate::clauses::Clause;
-use crate::clauses::ClauseKind;
 use crate::envelope::Envelope;
-use crate::places::Place;
-use crate::relations::Column;
-use crate::relations::Relation;
+use entries::clauses::Clause;
+use entries::clauses::ClauseKind;
+use entries::places::Place;
+use entries::relations::Column;
+use entries::relations::Relation;
 use fields::numbers::Width;
 use fields::puts;
 ghost use mathlib.Core.List.{_++_};
@@ -14,9 +14,9 @@ ghost use lib.ListN.{take};
 ghost use Rattle.ground.specs.Lists.{each};
 ghost use Rattle.ground.specs.Bytes.{bytesOf};
 ghost use Rattle.fields.specs.Puts.{Puts, Fronts};
-ghost use Rattle.envelopes.specs.Places.{placeBytes};
-ghost use Rattle.envelopes.specs.Relations.{columnBytes, relationBytes};
-ghost use Rattle.envelopes.specs.Clauses.{clauseBytes};
+ghost use Rattle.entries.specs.Places.{placeBytes};
+ghost use Rattle.entries.specs.Relations.{columnBytes, relationBytes};
+ghost use Rattle.entries.specs.Clauses.{clauseBytes};
 ghost use Rattle.envelopes.specs.Envelope.{envelopeBytes};
 
 fn put_size(out: &mut [u8], at: usize, size: u32) -> usize
@@ -71,7 +71,7 @@ fn put_columns(out: &mut [u8], at: usize, columns: [Column; 8], count: u8) -> us
     requires { ⌜ at ≤ 90000 ⌝ }
     ensures { λ r. ⌜ Puts (now (out .entry)) at 48 (each columnBytes (take count columns)) r (now (out .exit)) ⌝ }
 {
-    let end = crate::parts::in_use(8, count);
+    let end = ground::used::in_use(8, count);
     let mut i: usize = 0;
     let mut p = at;
     while i < end {
@@ -99,7 +99,7 @@ fn put_sizes(out: &mut [u8], at: usize, sizes: [u32; 16], count: u8) -> usize
     requires { ⌜ at ≤ 50000 ⌝ }
     ensures { λ r. ⌜ Puts (now (out .entry)) at 64 (each (bytesOf 4) (take count sizes)) r (now (out .exit)) ⌝ }
 {
-    let end = crate::parts::in_use(16, count);
+    let end = ground::used::in_use(16, count);
     let mut i: usize = 0;
     let mut p = at;
     while i < end {
@@ -114,7 +114,7 @@ fn put_relations(out: &mut [u8], at: usize, relations: [Relation; 8], count: u8)
     requires { ⌜ at ≤ 50000 ⌝ }
     ensures { λ r. ⌜ Puts (now (out .entry)) at 432 (each relationBytes (take count relations)) r (now (out .exit)) ⌝ }
 {
-    let end = crate::parts::in_use(8, count);
+    let end = ground::used::in_use(8, count);
     let mut i: usize = 0;
     let mut p = at;
     while i < end {
@@ -129,7 +129,7 @@ fn put_clauses(out: &mut [u8], at: usize, clauses: [Clause; 12], count: u8) -> u
     requires { ⌜ at ≤ 50000 ⌝ }
     ensures { λ r. ⌜ Puts (now (out .entry)) at 84 (each clauseBytes (take count clauses)) r (now (out .exit)) ⌝ }
 {
-    let end = crate::parts::in_use(12, count);
+    let end = ground::used::in_use(12, count);
     let mut i: usize = 0;
     let mut p = at;
     while i < end {
@@ -144,7 +144,7 @@ fn put_targets(out: &mut [u8], at: usize, targets: [Place; 16], count: u8) -> us
     requires { ⌜ at ≤ 50000 ⌝ }
     ensures { λ r. ⌜ Puts (now (out .entry)) at 32 (each placeBytes (take count targets)) r (now (out .exit)) ⌝ }
 {
-    let end = crate::parts::in_use(16, count);
+    let end = ground::used::in_use(16, count);
     let mut i: usize = 0;
     let mut p = at;
     while i < end {

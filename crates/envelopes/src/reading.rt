@@ -83,7 +83,6 @@ fn from_clauses(s: &[u8], at: usize, envelope: Envelope) -> EnvelopeRead
 }
 
 fn from_relations(s: &[u8], at: usize, envelope: Envelope) -> EnvelopeRead
-    requires { ⌜ envelope .«domain_count» ≤ 16 ⌝ }
     ensures { λ r. ⌜ r ≡ shownEnvelope (relationsThen (now (s .entry)) at envelope) ⌝ }
 {
     let part = crate::envelope::read_relations(s, at, envelope);

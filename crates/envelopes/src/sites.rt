@@ -1,9 +1,9 @@
 // Where relations are: each is at one site. No other place compares a relation's site.
 use crate::envelope::Envelope;
-use crate::relations::Relation;
+use entries::relations::Relation;
 ghost use mathlib.Core.Path.{_≡_};
 ghost use lib.ListN.{getD};
-ghost use Rattle.envelopes.specs.Relations.{pastRelation};
+ghost use Rattle.entries.specs.Relations.{pastRelation};
 ghost use Rattle.envelopes.specs.Sites.{siteOf, isAt, holds};
 
 fn site_at(relations: [Relation; 8], i: usize) -> u8
@@ -32,7 +32,7 @@ pub fn site_of(envelope: Envelope, relation: u8) -> u8
 pub fn is_at(envelope: Envelope, site: u8, relation: u8) -> bool
     ensures { λ r. ⌜ r ≡ isAt envelope site relation ⌝ }
 {
-    if crate::parts::in_use(8, envelope.relation_count) <= relation as usize {
+    if ground::used::in_use(8, envelope.relation_count) <= relation as usize {
         return false;
     }
     site_of(envelope, relation) == site
@@ -42,7 +42,7 @@ pub fn is_at(envelope: Envelope, site: u8, relation: u8) -> bool
 pub fn holds_relation(envelope: Envelope, site: u8) -> bool
     ensures { λ r. ⌜ r ≡ holds envelope site ⌝ }
 {
-    let end = crate::parts::in_use(8, envelope.relation_count);
+    let end = ground::used::in_use(8, envelope.relation_count);
     let mut i: u8 = 0;
     while (i as usize) < end {
         if is_at(envelope, site, i) {

@@ -12,7 +12,7 @@ use Rattle.ground.specs.Lists.{below, sum}
 use Rattle.ground.proofs.NumbersLaws.{below-length, below-getD}
 use Rattle.envelopes.specs.Parts.{relationCount}
 use Rattle.envelopes.specs.Sites.{siteOf}
-use Rattle.envelopes.specs.declared.relations.Column.{Column}
+use Rattle.entries.specs.declared.relations.Column.{Column}
 use Rattle.envelopes.specs.declared.envelope.Envelope.{Envelope}
 use Rattle.papers.specs.declared.steps.Step.{Step}
 use Rattle.estimates.specs.Profile.{columnOf, widthOf, rowsOf, countOf, rowsAfter, benefit}

@@ -14,7 +14,7 @@ use Rattle.ground.proofs.CountLaws.{split}
 use Rattle.ground.proofs.ListLaws.{filter-from, filter-length}
 use Rattle.ground.proofs.EveryLaws.{every-of, every-mapped}
 use Rattle.ground.proofs.NumbersLaws.{below-length, below-from}
-use Rattle.envelopes.specs.Places.{place}
+use Rattle.entries.specs.Places.{place}
 use Rattle.envelopes.specs.Parts.{relationCount, columnsIn}
 use Rattle.envelopes.specs.Sites.{siteOf}
 use Rattle.envelopes.specs.Kept.{kept, keptColumns}

@@ -9,17 +9,17 @@ use Rattle.ground.specs.Lists.{each, padded, numbersFrom}
 use Rattle.ground.specs.Searching.{firstFrom}
 use Rattle.ground.specs.Rising.{insert, rising}
 use Rattle.ground.specs.Outcome.{verdictOf}
-use Rattle.envelopes.specs.Relations.{relationWith}
-use Rattle.envelopes.specs.Places.{place, samePlace}
-use Rattle.envelopes.specs.Clauses.{clause, domainOf}
+use Rattle.entries.specs.Relations.{relationWith}
+use Rattle.entries.specs.Places.{place, samePlace}
+use Rattle.entries.specs.Clauses.{clause, domainOf}
 use Rattle.envelopes.specs.Parts.{sizesOf, relationsOf, clausesOf, targetsOf, columnsIn, noEnvelope, withVersion, withSizes, withRelations, withClauses, withTargets}
 use Rattle.envelopes.specs.Sites.{siteOf, isAt, holds}
 use Rattle.envelopes.specs.Kept.{names, kept, keptColumns}
-use Rattle.envelopes.specs.declared.places.Place.{Place}
-use Rattle.envelopes.specs.declared.relations.Column.{Column}
-use Rattle.envelopes.specs.declared.relations.Relation.{Relation}
-use Rattle.envelopes.specs.declared.clauses.Clause.{Clause}
-use Rattle.envelopes.specs.declared.clauses.ClauseKind.the-variants.{Selection, Join}
+use Rattle.entries.specs.declared.places.Place.{Place}
+use Rattle.entries.specs.declared.relations.Column.{Column}
+use Rattle.entries.specs.declared.relations.Relation.{Relation}
+use Rattle.entries.specs.declared.clauses.Clause.{Clause}
+use Rattle.entries.specs.declared.clauses.ClauseKind.the-variants.{Selection, Join}
 use Rattle.envelopes.specs.declared.envelope.Envelope.{Envelope}
 use Rattle.papers.specs.Paths.{edges, onPath}
 use Rattle.papers.specs.Steps.{step, places, isPlace, legalBy, legalSteps}

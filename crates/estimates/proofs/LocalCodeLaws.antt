@@ -16,10 +16,10 @@ use Rattle.ground.proofs.UsedLaws.{used-inside}
 use Rattle.ground.proofs.CountLaws.{left-suc, left-none}
 use Rattle.ground.proofs.EveryLaws.{every-mapped, every-of}
 use Rattle.ground.proofs.CollectingLaws.{padded-length, padded-take}
-use Rattle.envelopes.specs.Places.{place}
+use Rattle.entries.specs.Places.{place}
 use Rattle.envelopes.specs.Parts.{relationCount}
 use Rattle.envelopes.specs.Rules.{Within, tidy}
-use Rattle.envelopes.specs.declared.places.Place.{Place}
+use Rattle.entries.specs.declared.places.Place.{Place}
 use Rattle.envelopes.specs.declared.envelope.Envelope.{Envelope}
 use Rattle.papers.specs.Labels.{labelsOf, byLabels}
 use Rattle.papers.specs.Implied.{selected, selectionsBy, impliedSelections, shownSelections}

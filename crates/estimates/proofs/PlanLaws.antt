@@ -18,8 +18,8 @@ use Rattle.ground.proofs.ListLaws.{any-of, filter-mem, filter-from}
 use Rattle.ground.proofs.EveryLaws.{every-of, every-getD}
 use Rattle.ground.proofs.NumbersLaws.{below-mem, below-from}
 use Rattle.ground.proofs.CollectingLaws.{padded-length, padded-take}
-use Rattle.envelopes.specs.Places.{samePlace}
-use Rattle.envelopes.specs.Relations.{pastRelation}
+use Rattle.entries.specs.Places.{samePlace}
+use Rattle.entries.specs.Relations.{pastRelation}
 use Rattle.envelopes.specs.Parts.{sizesOf, relationsOf, relationCount}
 use Rattle.envelopes.specs.Sites.{siteOf, isAt, holds}
 use Rattle.envelopes.specs.Rules.{RelationWithin, Within}

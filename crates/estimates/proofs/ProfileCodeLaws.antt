@@ -13,13 +13,13 @@ use Rattle.ground.proofs.ListLaws.{filter-length, getD-map, map-alike}
 use Rattle.ground.proofs.NumbersLaws.{below-length, below-getD, below-from}
 use Rattle.ground.proofs.CollectingLaws.{padded-inside}
 use Rattle.ground.proofs.UsedLaws.{used-inside, used-outside}
-use Rattle.envelopes.specs.Relations.{noColumn, pastRelation}
-use Rattle.envelopes.specs.Places.{place}
+use Rattle.entries.specs.Relations.{noColumn, pastRelation}
+use Rattle.entries.specs.Places.{place}
 use Rattle.envelopes.specs.Parts.{relationsOf, sizesOf, columnsIn}
 use Rattle.envelopes.specs.Kept.{kept, keptColumns, shownColumns}
-use Rattle.envelopes.specs.declared.places.Place.{Place}
-use Rattle.envelopes.specs.declared.relations.Column.{Column}
-use Rattle.envelopes.specs.declared.relations.Relation.{Relation}
+use Rattle.entries.specs.declared.places.Place.{Place}
+use Rattle.entries.specs.declared.relations.Column.{Column}
+use Rattle.entries.specs.declared.relations.Relation.{Relation}
 use Rattle.envelopes.specs.declared.envelope.Envelope.{Envelope}
 use Rattle.envelopes.specs.declared.kept.Columns.{Columns}
 use Rattle.envelopes.proofs.PartLaws.{relation-inside, relation-outside}

@@ -16,17 +16,17 @@ use Rattle.ground.proofs.ListLaws.{getD-map}
 use Rattle.ground.proofs.EveryLaws.{every-map, every-mapped, every-of, every-at, every-getD, every-take}
 use Rattle.ground.proofs.NumbersLaws.{below-length, below-getD}
 use Rattle.ground.proofs.UsedLaws.{used-inside}
-use Rattle.envelopes.specs.Relations.{noColumn, pastRelation, columnsOf}
-use Rattle.envelopes.specs.Clauses.{domainOf}
+use Rattle.entries.specs.Relations.{noColumn, pastRelation, columnsOf}
+use Rattle.entries.specs.Clauses.{domainOf}
 use Rattle.envelopes.specs.Parts.{sizesOf, relationsOf, clausesOf, relationCount}
 use Rattle.envelopes.specs.Rules.{ColumnWithin, RelationWithin, PlaceWithin, KindWithin, ClauseWithin, Within}
 use Rattle.envelopes.specs.Fits.{ColumnFits, RelationFits, Fits}
-use Rattle.envelopes.specs.declared.places.Place.{Place}
-use Rattle.envelopes.specs.declared.relations.Column.{Column}
-use Rattle.envelopes.specs.declared.relations.Relation.{Relation}
-use Rattle.envelopes.specs.declared.clauses.Clause.{Clause}
-use Rattle.envelopes.specs.declared.clauses.ClauseKind.{ClauseKind}
-use Rattle.envelopes.specs.declared.clauses.ClauseKind.the-variants.{Selection, Join}
+use Rattle.entries.specs.declared.places.Place.{Place}
+use Rattle.entries.specs.declared.relations.Column.{Column}
+use Rattle.entries.specs.declared.relations.Relation.{Relation}
+use Rattle.entries.specs.declared.clauses.Clause.{Clause}
+use Rattle.entries.specs.declared.clauses.ClauseKind.{ClauseKind}
+use Rattle.entries.specs.declared.clauses.ClauseKind.the-variants.{Selection, Join}
 use Rattle.envelopes.specs.declared.envelope.Envelope.{Envelope}
 use Rattle.envelopes.proofs.PartLaws.{relation-inside}
 use Rattle.papers.specs.Paths.{Node, column, constant, Edge, edgeOf, edges}

@@ -8,7 +8,7 @@ use lib.ListN.{length, replicate}
 use Rattle.ground.specs.Lists.{filter, below, padded}
 use Rattle.ground.specs.Outcome.{Outcome, next, verdictOf, valueOf}
 use Rattle.ground.specs.Outcome.Outcome.{good, bad}
-use Rattle.envelopes.specs.Places.{samePlace}
+use Rattle.entries.specs.Places.{samePlace}
 use Rattle.envelopes.specs.Sites.{isAt, holds}
 use Rattle.envelopes.specs.Envelope.{checkEnvelope}
 use Rattle.envelopes.specs.declared.envelope.Envelope.{Envelope}

@@ -8,11 +8,11 @@ use lib.ListN.{getD, set}
 use lib.Dec.{eqb}
 use Rattle.ground.specs.Tests.{pick}
 use Rattle.ground.specs.Lists.{below, sum}
-use Rattle.envelopes.specs.Relations.{noColumn, pastRelation}
+use Rattle.entries.specs.Relations.{noColumn, pastRelation}
 use Rattle.envelopes.specs.Parts.{relationsOf, sizesOf, relationCount}
 use Rattle.envelopes.specs.Kept.{keptColumns}
-use Rattle.envelopes.specs.declared.places.Place.{Place}
-use Rattle.envelopes.specs.declared.relations.Column.{Column}
+use Rattle.entries.specs.declared.places.Place.{Place}
+use Rattle.entries.specs.declared.relations.Column.{Column}
 use Rattle.envelopes.specs.declared.envelope.Envelope.{Envelope}
 use Rattle.papers.specs.Implied.{impliedSelections}
 use Rattle.papers.specs.declared.steps.Step.{Step}

@@ -86,7 +86,7 @@ pub(crate) fn assembly_at(costs: Costs, envelope: Envelope, profile: Profile, si
     requires { ⌜ ((i : ℕ) → getD (costs .prices) i 0 ≤ 1) × ((i : ℕ) → getD (profile .rows) i 0 ≤ 1000000) × ((i : ℕ) → widthOf envelope i ≤ 2040) ⌝ }
     ensures { λ r. ⌜ r ≡ assemblyAt costs envelope profile site ⌝ }
 {
-    let end = envelopes::parts::in_use(8, envelope.relation_count);
+    let end = ground::used::in_use(8, envelope.relation_count);
     let mut total: u64 = 0;
     let mut relation: u8 = 0;
     while (relation as usize) < end {

@@ -1,7 +1,7 @@
 // The profile behind local operations: every implied selection, in order of relation, column, value.
 use crate::profiles::Profile;
+use entries::places::Place;
 use envelopes::envelope::Envelope;
-use envelopes::places::Place;
 use papers::labels::Labels;
 ghost use mathlib.Core.Path.{_≡_};
 ghost use Prim.Native.Nat.{ℕ, _≤_};
@@ -39,7 +39,7 @@ pub(crate) fn local_profile(envelope: Envelope) -> Profile
     ensures { λ r. ⌜ r ≡ localProfile envelope ⌝ }
 {
     let labels = papers::labels::labels_of(envelope);
-    let end = envelopes::parts::in_use(8, envelope.relation_count);
+    let end = ground::used::in_use(8, envelope.relation_count);
     let mut now = crate::profiles::given(envelope);
     let mut relation: u8 = 0;
     while (relation as usize) < end {

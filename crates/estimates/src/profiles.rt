@@ -1,17 +1,17 @@
 // A profile: the estimated rows of each relation and the distinct count of each column. And what the envelope says of a
 // column; whatever struct comes in has an answer.
+use entries::places::Place;
+use entries::relations::Column;
+use entries::relations::Relation;
 use envelopes::envelope::Envelope;
-use envelopes::places::Place;
-use envelopes::relations::Column;
-use envelopes::relations::Relation;
 use papers::steps::Step;
 ghost use mathlib.Core.Path.{_≡_};
 ghost use mathlib.Core.List.{map};
 ghost use Prim.Native.Nat.{ℕ, _/_, _%_, _≤_, _<_};
 ghost use lib.ListN.{getD, set};
 ghost use Rattle.ground.specs.Lists.{below};
-ghost use Rattle.envelopes.specs.Relations.{noColumn, pastRelation};
-ghost use Rattle.envelopes.specs.Places.{place};
+ghost use Rattle.entries.specs.Relations.{noColumn, pastRelation};
+ghost use Rattle.entries.specs.Places.{place};
 ghost use Rattle.envelopes.specs.Parts.{relationsOf};
 ghost use Rattle.estimates.specs.Profile.{columnOf, domainSize, widthOf, rowsOf, countOf, given, shrunk, afterSelection, rowsAfter, countAfter, afterStep};
 
@@ -40,7 +40,7 @@ fn column_in(relations: [Relation; 8], place: Place) -> Column
     }
     let relation = relations[i];
     let columns = relation.columns;
-    envelopes::relations::column_at(columns, place.column as usize)
+    entries::relations::column_at(columns, place.column as usize)
 }
 
 pub(crate) fn column_of(envelope: Envelope, place: Place) -> Column
@@ -60,7 +60,7 @@ pub(crate) fn domain_size(envelope: Envelope, place: Place) -> u32
     let sizes = envelope.sizes;
     let column = column_of(envelope, place);
     let i = column.domain as usize;
-    if envelopes::parts::in_use(16, envelope.domain_count) <= i {
+    if ground::used::in_use(16, envelope.domain_count) <= i {
         return 0;
     }
     sizes[i]

@@ -14,7 +14,7 @@ use Rattle.ground.proofs.EveryLaws.{every-map, every-take}
 use Rattle.ground.proofs.ByteLaws.{Tells, number-tells, all-tell}
 use Rattle.fields.specs.declared.puts.Written.the-variants.{Length}
 use Rattle.fields.proofs.PutLaws.{written-back}
-use Rattle.envelopes.specs.Places.{placeBytes}
+use Rattle.entries.specs.Places.{placeBytes}
 use Rattle.envelopes.specs.Rules.{Within}
 use Rattle.envelopes.specs.Fits.{Fits}
 use Rattle.envelopes.specs.declared.envelope.Envelope.{Envelope}

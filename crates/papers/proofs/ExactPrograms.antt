@@ -22,13 +22,13 @@ use Rattle.fields.specs.Refusals.{leftOver, notLegal}
 use Rattle.fields.specs.Exact.{Reads, Exact}
 use Rattle.fields.proofs.ExactReading.{done, tested, restated, last, whole-paper, chained, numbered-exact}
 use Rattle.fields.proofs.ExactNumbers.{in-exact, that-exact, head-exact}
-use Rattle.envelopes.specs.Relations.{pastRelation}
+use Rattle.entries.specs.Relations.{pastRelation}
 use Rattle.envelopes.specs.Parts.{sizesOf, relationsOf, relationCount, columnsIn}
 use Rattle.envelopes.specs.Sites.{siteOf, isAt, holds}
 use Rattle.envelopes.specs.Envelope.{checkEnvelope}
 use Rattle.envelopes.specs.Rules.{RelationWithin, Within, tidy}
 use Rattle.envelopes.specs.Fits.{Fits}
-use Rattle.envelopes.specs.declared.places.Place.{Place}
+use Rattle.entries.specs.declared.places.Place.{Place}
 use Rattle.envelopes.specs.declared.envelope.Envelope.{Envelope}
 use Rattle.envelopes.proofs.PartLaws.{relation-inside}
 use Rattle.envelopes.proofs.WrittenBytes.{place-bytes}

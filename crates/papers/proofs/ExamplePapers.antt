@@ -6,16 +6,16 @@ use lib.ListN.{take, replicate}
 use Rattle.ground.specs.Lists.{changedAt, each, below}
 use Rattle.ground.specs.Outcome.{Outcome}
 use Rattle.ground.specs.Outcome.Outcome.{good, bad}
-use Rattle.envelopes.specs.Relations.{relationWith}
-use Rattle.envelopes.specs.Places.{place}
-use Rattle.envelopes.specs.Clauses.{clause}
+use Rattle.entries.specs.Relations.{relationWith}
+use Rattle.entries.specs.Places.{place}
+use Rattle.entries.specs.Clauses.{clause}
 use Rattle.envelopes.specs.Parts.{noEnvelope, withVersion, withSizes, withRelations, withClauses, withTargets}
 use Rattle.envelopes.specs.Envelope.{readEnvelope, envelopeBytes, checkEnvelope}
-use Rattle.envelopes.specs.declared.places.Place.{Place}
-use Rattle.envelopes.specs.declared.relations.Column.{Column}
-use Rattle.envelopes.specs.declared.relations.Relation.{Relation}
-use Rattle.envelopes.specs.declared.clauses.Clause.{Clause}
-use Rattle.envelopes.specs.declared.clauses.ClauseKind.the-variants.{Selection, Join}
+use Rattle.entries.specs.declared.places.Place.{Place}
+use Rattle.entries.specs.declared.relations.Column.{Column}
+use Rattle.entries.specs.declared.relations.Relation.{Relation}
+use Rattle.entries.specs.declared.clauses.Clause.{Clause}
+use Rattle.entries.specs.declared.clauses.ClauseKind.the-variants.{Selection, Join}
 use Rattle.envelopes.specs.declared.envelope.Envelope.{Envelope}
 use Rattle.papers.specs.Steps.{step}
 use Rattle.papers.specs.Programs.{programWith, readProgram, checkProgram}

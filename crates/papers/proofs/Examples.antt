@@ -11,16 +11,16 @@ use Rattle.ground.specs.Bytes.{littleEnd, bytesOf}
 use Rattle.ground.specs.Searching.{firstFrom}
 use Rattle.ground.specs.Rising.{insert, rising}
 use Rattle.fields.specs.Numbers.{numberAt, numberThat, marked, markOf, versionAt, headOf}
-use Rattle.envelopes.specs.Relations.{relationWith, columnsOf, columnAt, columnBytes, columnsThen, relationAt, relationBytes}
-use Rattle.envelopes.specs.Places.{place, samePlace, placeAt, placeBytes}
-use Rattle.envelopes.specs.Clauses.{domainOf, selectionAt, joined, joinAt, clauseAt, kindBytes}
+use Rattle.entries.specs.Relations.{relationWith, columnsOf, columnAt, columnBytes, columnsThen, relationAt, relationBytes}
+use Rattle.entries.specs.Places.{place, samePlace, placeAt, placeBytes}
+use Rattle.entries.specs.Clauses.{domainOf, selectionAt, joined, joinAt, clauseAt, kindBytes}
 use Rattle.envelopes.specs.Parts.{columnsIn, sizesOf, relationsOf, clausesOf, targetsOf, withVersion, withSizes, withRelations, withClauses, withTargets}
 use Rattle.envelopes.specs.Sites.{siteOf, isAt, holds}
 use Rattle.envelopes.specs.Kept.{names, kept, keptColumns, firstBare}
 use Rattle.envelopes.specs.Envelope.{filled, listInto, ended, targetsThen, clausesThen, relationsThen, sizesThen, envelopeFrom, readEnvelope, envelopeBytes, checkEnvelope}
 use Rattle.envelopes.specs.Rules.{tidyRelation, tidy}
-use Rattle.envelopes.specs.declared.places.Place.{Place}
-use Rattle.envelopes.specs.declared.clauses.Clause.{Clause}
+use Rattle.entries.specs.declared.places.Place.{Place}
+use Rattle.entries.specs.declared.clauses.Clause.{Clause}
 use Rattle.envelopes.specs.declared.envelope.Envelope.{Envelope}
 use Rattle.papers.specs.Paths.{edges, onPath}
 use Rattle.papers.specs.Steps.{step, places, isPlace, legalBy, legalSteps, stepBytes}

@@ -14,13 +14,13 @@ use Rattle.ground.specs.Searching.{firstFrom}
 use Rattle.ground.proofs.SearchingLaws.{Looking, first-more, first-found, first-none}
 use Rattle.ground.proofs.MappingLaws.{Mapping, mapping-set, mapping-stays, mapping-all}
 use Rattle.ground.proofs.ListLaws.{getD-map}
-use Rattle.envelopes.specs.Clauses.{noClause, domainOf}
+use Rattle.entries.specs.Clauses.{noClause, domainOf}
 use Rattle.envelopes.specs.Parts.{clausesOf}
-use Rattle.envelopes.specs.declared.places.Place.{Place}
-use Rattle.envelopes.specs.declared.relations.Relation.{Relation}
-use Rattle.envelopes.specs.declared.clauses.Clause.{Clause}
-use Rattle.envelopes.specs.declared.clauses.ClauseKind.{ClauseKind}
-use Rattle.envelopes.specs.declared.clauses.ClauseKind.the-variants.{Selection, Join}
+use Rattle.entries.specs.declared.places.Place.{Place}
+use Rattle.entries.specs.declared.relations.Relation.{Relation}
+use Rattle.entries.specs.declared.clauses.Clause.{Clause}
+use Rattle.entries.specs.declared.clauses.ClauseKind.{ClauseKind}
+use Rattle.entries.specs.declared.clauses.ClauseKind.the-variants.{Selection, Join}
 use Rattle.envelopes.specs.declared.envelope.Envelope.{Envelope}
 use Rattle.papers.specs.Paths.{column, constant, Edge, edgeOf, edges}
 use Rattle.papers.specs.declared.labels.Labels.{Labels}

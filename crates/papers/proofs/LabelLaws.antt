@@ -18,14 +18,14 @@ use Rattle.ground.proofs.TestLaws.{and-left, and-right, and-both, same-test}
 use Rattle.ground.proofs.EveryLaws.{every-at}
 use Rattle.ground.proofs.ListLaws.{mem-getD, getD-map}
 use Rattle.ground.proofs.NumbersLaws.{below-length, below-getD}
-use Rattle.envelopes.specs.Places.{place}
-use Rattle.envelopes.specs.Clauses.{noClause, domainOf}
+use Rattle.entries.specs.Places.{place}
+use Rattle.entries.specs.Clauses.{noClause, domainOf}
 use Rattle.envelopes.specs.Parts.{relationsOf, clausesOf, relationCount, columnsIn}
 use Rattle.envelopes.specs.Rules.{PlaceWithin, KindWithin, ClauseWithin, Within}
-use Rattle.envelopes.specs.declared.places.Place.{Place}
-use Rattle.envelopes.specs.declared.clauses.Clause.{Clause}
-use Rattle.envelopes.specs.declared.clauses.ClauseKind.{ClauseKind}
-use Rattle.envelopes.specs.declared.clauses.ClauseKind.the-variants.{Selection, Join}
+use Rattle.entries.specs.declared.places.Place.{Place}
+use Rattle.entries.specs.declared.clauses.Clause.{Clause}
+use Rattle.entries.specs.declared.clauses.ClauseKind.{ClauseKind}
+use Rattle.entries.specs.declared.clauses.ClauseKind.the-variants.{Selection, Join}
 use Rattle.envelopes.specs.declared.envelope.Envelope.{Envelope}
 use Rattle.envelopes.proofs.PartLaws.{columns-outside}
 use Rattle.papers.specs.Paths.{Node, column, constant, sameNode, Edge, edgeOf, edges, PathBetween, linked, onPath}

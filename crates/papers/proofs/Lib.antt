@@ -18,5 +18,6 @@ pub mod ProgramCodeLaws
 pub mod TidyLaws
 pub mod ExactPrograms
 pub mod ExactChecks
+pub mod CheckLaws
 pub mod ExamplePapers
 pub mod Examples

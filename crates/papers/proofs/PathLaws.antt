@@ -7,8 +7,8 @@ use mathlib.Core.Logic.{_⊎_, inl, inr, _↔_}
 use lib.Dec.{eqb}
 use borrow.Author.Tests.{eqb-true, eq-eqb}
 use Rattle.ground.proofs.TestLaws.{and-left, and-right, and-both, or-cases, or-left, or-right, same-test}
-use Rattle.envelopes.specs.Places.{samePlace}
-use Rattle.envelopes.specs.declared.places.Place.{Place}
+use Rattle.entries.specs.Places.{samePlace}
+use Rattle.entries.specs.declared.places.Place.{Place}
 use Rattle.envelopes.specs.declared.envelope.Envelope.{Envelope}
 use Rattle.papers.specs.Paths.{Node, column, constant, sameNode, Edge, edges, PathBetween, stay, along, back, linked, onPath}
 

@@ -20,15 +20,15 @@ use Rattle.fields.specs.declared.puts.Written.{Written}
 use Rattle.fields.specs.declared.puts.Written.the-variants as w
 use Rattle.fields.proofs.NumberLaws.{number-good, number-bad, at-good, one-byte}
 use Rattle.fields.proofs.PutLaws.{written-refused, written-front}
-use Rattle.envelopes.specs.Places.{placeAt, shownPlace}
+use Rattle.entries.specs.Places.{placeAt, shownPlace}
 use Rattle.envelopes.specs.Sites.{holds}
-use Rattle.envelopes.specs.declared.places.Place.{Place}
-use Rattle.envelopes.specs.declared.places.PlaceRead.{PlaceRead}
-use Rattle.envelopes.specs.declared.places.PlaceRead.the-variants as p
+use Rattle.entries.specs.declared.places.Place.{Place}
+use Rattle.entries.specs.declared.places.PlaceRead.{PlaceRead}
+use Rattle.entries.specs.declared.places.PlaceRead.the-variants as p
 use Rattle.envelopes.specs.Envelope.{checkEnvelope, shownEnvelope}
 use Rattle.envelopes.specs.declared.envelope.Envelope.{Envelope}
 use Rattle.envelopes.specs.declared.reading.EnvelopeRead.{EnvelopeRead}
-use Rattle.envelopes.proofs.PlaceLaws.{place-good, place-bad}
+use Rattle.entries.proofs.PlaceLaws.{place-good, place-bad}
 use Rattle.envelopes.proofs.ReadingLaws.{read-taken, read-refused}
 use Rattle.envelopes.proofs.ExactEnvelope.{check-sound}
 use Rattle.papers.specs.Labels.{labelsOf, byLabels}

@@ -10,7 +10,7 @@ use Rattle.ground.specs.Lists.{each}
 use Rattle.ground.specs.Bytes.{bytesOf}
 use Rattle.fields.specs.Puts.{Puts, Fronts}
 use Rattle.fields.proofs.PutLaws.{then-put}
-use Rattle.envelopes.specs.Places.{placeBytes}
+use Rattle.entries.specs.Places.{placeBytes}
 use Rattle.papers.specs.Steps.{stepBytes}
 use Rattle.papers.specs.Programs.{SJP, stepsOf, programBytes}
 use Rattle.papers.specs.declared.steps.Step.{Step}

@@ -6,7 +6,7 @@ use borrow.Author.Tests.{lt-ltb, le-ltb, eq-eqb, ne-eqb, not-true, not-false}
 use lib.Dec.{ltb}
 use Rattle.ground.specs.declared.Verdict.the-variants as v
 use Rattle.envelopes.specs.Parts.{columnsIn}
-use Rattle.envelopes.specs.declared.places.Place.{Place}
+use Rattle.entries.specs.declared.places.Place.{Place}
 use Rattle.envelopes.specs.declared.envelope.Envelope.{Envelope}
 use Rattle.envelopes.specs.declared.reading.EnvelopeRead.{EnvelopeRead}
 use Rattle.envelopes.specs.Envelope.{checkEnvelope, shownEnvelope}

@@ -16,8 +16,8 @@ use Rattle.ground.proofs.ListLaws.{any-of, any-from, filter-append, filter-map,
 use Rattle.ground.proofs.EveryLaws.{every-at}
 use Rattle.envelopes.specs.Parts.{clausesOf}
 use Rattle.envelopes.specs.Rules.{Within}
-use Rattle.envelopes.specs.declared.places.Place.{Place}
-use Rattle.envelopes.specs.declared.clauses.Clause.{Clause}
+use Rattle.entries.specs.declared.places.Place.{Place}
+use Rattle.entries.specs.declared.clauses.Clause.{Clause}
 use Rattle.envelopes.specs.declared.envelope.Envelope.{Envelope}
 use Rattle.papers.specs.Paths.{Node, column, Edge, edgeOf, edges, linked, onPath}
 use Rattle.papers.specs.Steps.{step, places, legal, legalSteps, PlaceBefore}

@@ -13,10 +13,10 @@ use Rattle.ground.proofs.TestLaws.{and-left, and-right, same-test}
 use Rattle.ground.proofs.ListLaws.{filter-mem, filter-from, each-mem, each-from}
 use Rattle.ground.proofs.NumbersLaws.{below-mem, below-from}
 use Rattle.ground.proofs.OrderLaws.{numbers-ordered, ordered-filter, ordered-map, ordered-each}
-use Rattle.envelopes.specs.Places.{place}
+use Rattle.entries.specs.Places.{place}
 use Rattle.envelopes.specs.Parts.{relationCount, columnsIn}
 use Rattle.envelopes.specs.Rules.{Within}
-use Rattle.envelopes.specs.declared.places.Place.{Place}
+use Rattle.entries.specs.declared.places.Place.{Place}
 use Rattle.envelopes.specs.declared.envelope.Envelope.{Envelope}
 use Rattle.papers.specs.Paths.{column, onPath}
 use Rattle.papers.specs.Labels.{labelsOf, byLabels}

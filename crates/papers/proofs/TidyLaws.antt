@@ -10,15 +10,15 @@ use Rattle.ground.specs.Rising.{rising}
 use Rattle.ground.specs.Outcome.Outcome.{good}
 use Rattle.ground.proofs.ListLaws.{filter-alike, map-alike, each-alike}
 use Rattle.ground.proofs.EveryLaws.{every-map, every-at}
-use Rattle.envelopes.specs.Places.{place}
+use Rattle.entries.specs.Places.{place}
 use Rattle.envelopes.specs.Parts.{relationsOf, clausesOf, relationCount, columnsIn}
 use Rattle.envelopes.specs.Envelope.{checkEnvelope}
 use Rattle.envelopes.specs.Fits.{Fits}
 use Rattle.envelopes.specs.Rules.{KindWithin, ClauseWithin, Within, tidy}
-use Rattle.envelopes.specs.declared.places.Place.{Place}
-use Rattle.envelopes.specs.declared.clauses.Clause.{Clause}
-use Rattle.envelopes.specs.declared.clauses.ClauseKind.{ClauseKind}
-use Rattle.envelopes.specs.declared.clauses.ClauseKind.the-variants.{Selection, Join}
+use Rattle.entries.specs.declared.places.Place.{Place}
+use Rattle.entries.specs.declared.clauses.Clause.{Clause}
+use Rattle.entries.specs.declared.clauses.ClauseKind.{ClauseKind}
+use Rattle.entries.specs.declared.clauses.ClauseKind.the-variants.{Selection, Join}
 use Rattle.envelopes.specs.declared.envelope.Envelope.{Envelope}
 use Rattle.envelopes.proofs.TidyLaws.{tidy-clauses, tidy-targets, tidy-columns-in, tidy-relation-count, tidy-holds, tidy-domain-of}
 use Rattle.envelopes.proofs.ExactChecks.{check-exact}

@@ -10,12 +10,12 @@ use lib.ListN.{getD}
 use Rattle.ground.specs.Tests.{pick}
 use Rattle.ground.specs.Lists.{below}
 use Rattle.ground.specs.Searching.{firstFrom}
-use Rattle.envelopes.specs.Clauses.{noClause, domainOf}
+use Rattle.entries.specs.Clauses.{noClause, domainOf}
 use Rattle.envelopes.specs.Parts.{clausesOf}
-use Rattle.envelopes.specs.declared.clauses.Clause.{Clause}
-use Rattle.envelopes.specs.declared.clauses.ClauseKind.{ClauseKind}
-use Rattle.envelopes.specs.declared.clauses.ClauseKind.the-variants.{Selection, Join}
-use Rattle.envelopes.specs.declared.relations.Relation.{Relation}
+use Rattle.entries.specs.declared.clauses.Clause.{Clause}
+use Rattle.entries.specs.declared.clauses.ClauseKind.{ClauseKind}
+use Rattle.entries.specs.declared.clauses.ClauseKind.the-variants.{Selection, Join}
+use Rattle.entries.specs.declared.relations.Relation.{Relation}
 use Rattle.envelopes.specs.declared.envelope.Envelope.{Envelope}
 use Rattle.papers.specs.Paths.{Node, column, constant, Edge, edges}
 

@@ -6,5 +6,6 @@ pub mod Steps
 pub mod Labels
 pub mod Implied
 pub mod Programs
+pub mod Checks
 pub mod Meaning
 pub mod Fits

@@ -5,14 +5,14 @@ use mathlib.Core.Path.{_≡_}
 use mathlib.Core.List.{List, [], _∷_, map, List·Memᴰ}
 use Prim.Native.Nat.{ℕ}
 use lib.Dec.{eqb}
-use Rattle.envelopes.specs.Places.{samePlace}
-use Rattle.envelopes.specs.Clauses.{domainOf}
+use Rattle.entries.specs.Places.{samePlace}
+use Rattle.entries.specs.Clauses.{domainOf}
 use Rattle.envelopes.specs.Parts.{clausesOf}
-use Rattle.envelopes.specs.declared.places.Place.{Place}
-use Rattle.envelopes.specs.declared.relations.Relation.{Relation}
-use Rattle.envelopes.specs.declared.clauses.Clause.{Clause}
-use Rattle.envelopes.specs.declared.clauses.ClauseKind.{ClauseKind}
-use Rattle.envelopes.specs.declared.clauses.ClauseKind.the-variants.{Selection, Join}
+use Rattle.entries.specs.declared.places.Place.{Place}
+use Rattle.entries.specs.declared.relations.Relation.{Relation}
+use Rattle.entries.specs.declared.clauses.Clause.{Clause}
+use Rattle.entries.specs.declared.clauses.ClauseKind.{ClauseKind}
+use Rattle.entries.specs.declared.clauses.ClauseKind.the-variants.{Selection, Join}
 use Rattle.envelopes.specs.declared.envelope.Envelope.{Envelope}
 
 -- a column, or a constant of a domain

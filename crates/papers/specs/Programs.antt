@@ -17,7 +17,7 @@ use Rattle.fields.specs.Refusals.{leftOver, notLegal}
 use Rattle.fields.specs.Numbers.{numberIn, numberThat, headOf}
 use Rattle.fields.specs.Puts.{writtenOf, writtenIn}
 use Rattle.fields.specs.declared.puts.Written.{Written}
-use Rattle.envelopes.specs.Places.{noPlace, placeAt}
+use Rattle.entries.specs.Places.{noPlace, placeAt}
 use Rattle.envelopes.specs.Sites.{holds}
 use Rattle.envelopes.specs.Envelope.{checkEnvelope}
 use Rattle.envelopes.specs.declared.envelope.Envelope.{Envelope}

@@ -8,9 +8,9 @@ use lib.Dec.{eqb, ltb}
 use Rattle.ground.specs.Lists.{filter, each, below}
 use Rattle.ground.specs.Outcome.{Outcome}
 use Rattle.ground.specs.Outcome.Outcome.{good, bad}
-use Rattle.envelopes.specs.Places.{place, placeBytes}
+use Rattle.entries.specs.Places.{place, placeBytes}
 use Rattle.envelopes.specs.Parts.{relationCount, columnsIn}
-use Rattle.envelopes.specs.declared.places.Place.{Place}
+use Rattle.entries.specs.declared.places.Place.{Place}
 use Rattle.envelopes.specs.declared.envelope.Envelope.{Envelope}
 use Rattle.papers.specs.Paths.{Node, column, onPath}
 use Rattle.papers.specs.declared.steps.Step.{Step}

@@ -1,15 +1,15 @@
 // A label for each column and each constant of an envelope: equal labels exactly where a path joins two. Whatever struct comes
 // in has labels: a number past the array has label 0.
-use envelopes::clauses::Clause;
-use envelopes::clauses::ClauseKind;
+use entries::clauses::Clause;
+use entries::clauses::ClauseKind;
+use entries::places::Place;
+use entries::relations::Relation;
 use envelopes::envelope::Envelope;
-use envelopes::places::Place;
-use envelopes::relations::Relation;
 ghost use mathlib.Core.Path.{_≡_};
 ghost use Prim.Native.Nat.{_+_, _*_};
 ghost use mathlib.Core.List.{map};
 ghost use lib.ListN.{getD, take};
-ghost use Rattle.envelopes.specs.declared.clauses.Clause.{Clause};
+ghost use Rattle.entries.specs.declared.clauses.Clause.{Clause};
 ghost use Rattle.envelopes.specs.declared.envelope.Envelope.{Envelope};
 ghost use Rattle.papers.specs.Paths.{column, constant, edgeOf};
 ghost use Rattle.papers.specs.Labels.{selects, numberOf, relabel, united, labelled, labelsOf, byLabels};
@@ -105,7 +105,7 @@ fn kind_selects(relations: [Relation; 8], kind: ClauseKind, domain: u8, value: u
     match kind {
         ClauseKind::Join { left: _, right: _ } => false,
         ClauseKind::Selection { place, value: v } => {
-            if envelopes::clauses::domain_of(relations, place) == domain {
+            if entries::clauses::domain_of(relations, place) == domain {
                 v == value
             } else {
                 false
@@ -125,7 +125,7 @@ fn constant_number(envelope: Envelope, domain: u8, value: u32) -> usize
 {
     let relations = envelope.relations;
     let clauses = envelope.clauses;
-    let end = envelopes::parts::in_use(12, envelope.clause_count);
+    let end = ground::used::in_use(12, envelope.clause_count);
     let mut i: usize = 0;
     while i < end {
         let clause = clauses[i];
@@ -176,7 +176,7 @@ fn along(envelope: Envelope, labels: [u8; 76], kind: ClauseKind) -> [u8; 76]
     match kind {
         ClauseKind::Selection { place, value } => {
             let relations = envelope.relations;
-            let domain = envelopes::clauses::domain_of(relations, place);
+            let domain = entries::clauses::domain_of(relations, place);
             let number = constant_number(envelope, domain, value);
             made_one(labels, column_number(place), number)
         }
@@ -191,7 +191,7 @@ fn by_clauses(envelope: Envelope, clauses: [Clause; 12], n: u8) -> [u8; 76]
     ensures { λ r. ⌜ r ≡ labelled envelope (map (λ (c : Clause). edgeOf (envelope .relations) (c .kind)) (take n clauses)) ⌝ }
 {
     let mut labels = OWN;
-    let mut i = envelopes::parts::in_use(12, n);
+    let mut i = ground::used::in_use(12, n);
     while 0 < i {
         i -= 1;
         let clause = clauses[i];

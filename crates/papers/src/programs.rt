@@ -1,8 +1,8 @@
 // Step programs: read against an envelope, checked, written. Steps are tested by the labels of the envelope.
 use crate::labels::Labels;
 use crate::steps::Step;
+use entries::places::PlaceRead;
 use envelopes::envelope::Envelope;
-use envelopes::places::PlaceRead;
 use fields::numbers::NumberRead;
 use fields::numbers::Width;
 use fields::puts::Written;
@@ -49,14 +49,14 @@ pub struct ProgramRead {
 fn no_step() -> Step
     ensures { λ r. ⌜ r ≡ noStep ⌝ }
 {
-    let place = envelopes::places::no_place();
+    let place = entries::places::no_place();
     Step {
         left: place,
         right: place,
     }
 }
 
-fn no_program() -> Program
+pub(crate) fn no_program() -> Program
     ensures { λ r. ⌜ r ≡ noProgram ⌝ }
 {
     let steps = [no_step(); 156];
@@ -83,9 +83,9 @@ fn read_step(s: &[u8], at: usize, i: usize, envelope: Envelope, labels: Labels) 
 {
     let count = envelope.relation_count;
     let relations = envelope.relations;
-    match envelopes::places::read_place(s, at, count, relations) {
+    match entries::places::read_place(s, at, count, relations) {
         PlaceRead::Not { number, position } => StepRead::Not { number, position },
-        PlaceRead::Is(left, p) => match envelopes::places::read_place(s, p, count, relations) {
+        PlaceRead::Is(left, p) => match entries::places::read_place(s, p, count, relations) {
             PlaceRead::Not { number, position } => StepRead::Not { number, position },
             PlaceRead::Is(right, q) => {
                 let step = Step { left, right };

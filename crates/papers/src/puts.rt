@@ -29,7 +29,7 @@ fn put_steps(out: &mut [u8], at: usize, steps: [Step; 156], count: u8) -> usize
     requires { ⌜ at ≤ 10000 ⌝ }
     ensures { λ r. ⌜ Puts (now (out .entry)) at 624 (each stepBytes (take count steps)) r (now (out .exit)) ⌝ }
 {
-    let end = envelopes::parts::in_use(156, count);
+    let end = ground::used::in_use(156, count);
     let mut i: usize = 0;
     let mut p = at;
     while i < end {

@@ -1,7 +1,7 @@
 // A step R<A=B]S of a program: left is R.A, right is S.B.
 use crate::labels::Labels;
+use entries::places::Place;
 use envelopes::envelope::Envelope;
-use envelopes::places::Place;
 use ground::Verdict;
 ghost use mathlib.Core.Path.{_≡_};
 ghost use Rattle.envelopes.specs.Envelope.{checkEnvelope};
@@ -23,7 +23,7 @@ pub enum Legality {
 fn is_place(envelope: Envelope, place: Place) -> bool
     ensures { λ r. ⌜ r ≡ isPlace envelope place ⌝ }
 {
-    if envelopes::parts::in_use(8, envelope.relation_count) <= place.relation as usize {
+    if ground::used::in_use(8, envelope.relation_count) <= place.relation as usize {
         return false;
     }
     (place.column as u32) < envelopes::parts::columns_in(envelope, place.relation)

@@ -17,7 +17,7 @@ use Rattle.ground.proofs.CombinationLaws.{combinations-from}
 use Rattle.ground.proofs.RisingLaws.{rising-rises, rising-length, rising-any}
 use Rattle.ground.proofs.UsedLaws.{used-outside}
 use Rattle.envelopes.specs.Parts.{relationCount}
-use Rattle.envelopes.specs.declared.places.Place.{Place}
+use Rattle.entries.specs.declared.places.Place.{Place}
 use Rattle.envelopes.specs.declared.envelope.Envelope.{Envelope}
 use Rattle.papers.specs.Meaning.{Row, Table, wordIn, valueIn, tablesOf}
 use Rattle.papers.specs.Steps.{isPlace, legal}

@@ -9,7 +9,7 @@ use Rattle.ground.specs.Tests.{pick}
 use Rattle.ground.specs.Lists.{filter}
 use Rattle.ground.proofs.CountLaws.{split}
 use Rattle.envelopes.specs.Parts.{relationCount}
-use Rattle.envelopes.specs.declared.places.Place.{Place}
+use Rattle.entries.specs.declared.places.Place.{Place}
 use Rattle.envelopes.specs.declared.envelope.Envelope.{Envelope}
 use Rattle.semijoin.specs.Offsets.{countIn, firstMark, rowCount, rowsAt, marksAt}
 use Rattle.semijoin.specs.Marks.{keptOf, keptRows, among, sieved, reducedBy, removedBy}

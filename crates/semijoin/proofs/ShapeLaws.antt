@@ -14,7 +14,7 @@ use Rattle.ground.proofs.CountLaws.{split}
 use Rattle.ground.proofs.ListLaws.{all-at, all-of}
 use Rattle.ground.proofs.EveryLaws.{every-getD}
 use Rattle.ground.proofs.NumbersLaws.{below-mem}
-use Rattle.envelopes.specs.Relations.{pastRelation}
+use Rattle.entries.specs.Relations.{pastRelation}
 use Rattle.envelopes.specs.Parts.{sizesOf, relationsOf, relationCount, columnsIn}
 use Rattle.envelopes.specs.Rules.{Within, RelationWithin}
 use Rattle.envelopes.specs.declared.envelope.Envelope.{Envelope}

@@ -12,7 +12,7 @@ use Rattle.ground.proofs.ListLaws.{map-alike, each-alike, all-alike}
 use Rattle.ground.proofs.CollectingLaws.{padded-take}
 use Rattle.envelopes.specs.Parts.{relationCount, columnsIn}
 use Rattle.envelopes.specs.Rules.{Within, tidy}
-use Rattle.envelopes.specs.declared.places.Place.{Place}
+use Rattle.entries.specs.declared.places.Place.{Place}
 use Rattle.envelopes.specs.declared.envelope.Envelope.{Envelope}
 use Rattle.envelopes.proofs.TidyLaws.{tidy-relation-count, tidy-columns-in}
 use Rattle.papers.specs.Meaning.{Row}

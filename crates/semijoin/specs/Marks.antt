@@ -10,7 +10,7 @@ use Rattle.ground.specs.Tests.{pick}
 use Rattle.ground.specs.Lists.{consIf, any}
 use Rattle.ground.specs.Rising.{rising}
 use Rattle.fields.specs.Refusals.{tooShort}
-use Rattle.envelopes.specs.declared.places.Place.{Place}
+use Rattle.entries.specs.declared.places.Place.{Place}
 use Rattle.envelopes.specs.declared.envelope.Envelope.{Envelope}
 use Rattle.papers.specs.Meaning.{Row, Table, wordIn}
 use Rattle.papers.specs.declared.steps.Step.{Step}

@@ -9,7 +9,7 @@ use lib.ListN.{length, getD, drop}
 use Rattle.ground.specs.Lists.{combinations}
 use Rattle.ground.specs.Rising.{Rises}
 use Rattle.envelopes.specs.Parts.{clausesOf}
-use Rattle.envelopes.specs.declared.places.Place.{Place}
+use Rattle.entries.specs.declared.places.Place.{Place}
 use Rattle.envelopes.specs.declared.envelope.Envelope.{Envelope}
 use Rattle.papers.specs.Meaning.{Row, Combination, wordIn, meetsAll, tablesOf}
 use Rattle.papers.specs.Steps.{isPlace, legal}

@@ -47,7 +47,7 @@ fn breaks_some_selection(
     ensures { λ r. ⌜ r ≡ any (λ (s : Selected). not (eqb (wordIn (getD (rowsOver extent (now (tables .entry))) row []) (s .column)) (s .value))) (take n all) ⌝ }
 {
     let mut i: usize = 0;
-    let end = envelopes::parts::in_use(96, n);
+    let end = ground::used::in_use(96, n);
     while i < end {
         let selected = all[i];
         if breaks_selection(tables, extent, row, selected) {
@@ -63,7 +63,7 @@ fn breaks_some_equality(tables: &[u32], extent: Extent, row: usize, all: [Equal;
     ensures { λ r. ⌜ r ≡ any (λ (s : Equal). not (eqb (wordIn (getD (rowsOver extent (now (tables .entry))) row []) (s .left)) (wordIn (getD (rowsOver extent (now (tables .entry))) row []) (s .right)))) (take n all) ⌝ }
 {
     let mut i: usize = 0;
-    let end = envelopes::parts::in_use(64, n);
+    let end = ground::used::in_use(64, n);
     while i < end {
         let equal = all[i];
         if breaks_equality(tables, extent, row, equal) {
@@ -126,7 +126,7 @@ pub fn open_marks(envelope: Envelope, tables: &[u32], here: [bool; 8], marks: &m
     ensures { λ r. ⌜ now (marks .exit) ≡ sets (now (marks .entry)) 0 (opened envelope (now (tables .entry)) (λ r. getD here r false)) ⌝ }
 {
     let labels = papers::labels::labels_of(envelope);
-    let end = envelopes::parts::in_use(8, envelope.relation_count);
+    let end = ground::used::in_use(8, envelope.relation_count);
     let mut relation: u8 = 0;
     while (relation as usize) < end {
         let extent = crate::offsets::extent_of(envelope, tables, relation);

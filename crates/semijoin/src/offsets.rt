@@ -17,7 +17,7 @@ pub fn count_in(envelope: Envelope, tables: &[u32], relation: u8) -> u32
     ensures { λ r. ⌜ r ≡ countIn envelope (now (tables .entry)) relation ⌝ }
 {
     let i = relation as usize;
-    if envelopes::parts::in_use(8, envelope.relation_count) <= i {
+    if ground::used::in_use(8, envelope.relation_count) <= i {
         return 0;
     }
     if tables.len() <= i {
@@ -30,7 +30,7 @@ pub fn count_in(envelope: Envelope, tables: &[u32], relation: u8) -> u32
 pub fn extent_of(envelope: Envelope, tables: &[u32], relation: u8) -> Extent
     ensures { λ r. ⌜ r ≡ extentOf envelope (now (tables .entry)) relation ⌝ }
 {
-    let mut word = envelopes::parts::in_use(8, envelope.relation_count);
+    let mut word = ground::used::in_use(8, envelope.relation_count);
     let mut mark: usize = 0;
     let mut i: u8 = 0;
     while i < relation {
@@ -54,7 +54,7 @@ pub fn extent_of(envelope: Envelope, tables: &[u32], relation: u8) -> Extent
 pub fn row_count(envelope: Envelope, tables: &[u32]) -> usize
     ensures { λ r. ⌜ r ≡ rowCount envelope (now (tables .entry)) ⌝ }
 {
-    let n = envelopes::parts::in_use(8, envelope.relation_count);
+    let n = ground::used::in_use(8, envelope.relation_count);
     let end = extent_of(envelope, tables, n as u8);
     end.mark
 }

@@ -22,7 +22,7 @@ fn take_steps(envelope: Envelope, steps: [Step; 156], n: u8, tables: &[u32], mar
     requires { ⌜ (shaped envelope (now tables) ≡ true) × (rowCount envelope (now tables) ≤ length (now marks)) × Every (λ (s : Step). legal envelope s ≡ true) (take n steps) ⌝ }
     ensures { λ r. ⌜ now (marks .exit) ≡ steppedAll envelope (now (tables .entry)) (take n steps) (now (marks .entry)) ⌝ }
 {
-    let end = envelopes::parts::in_use(156, n);
+    let end = ground::used::in_use(156, n);
     let mut i: usize = 0;
     while i < end {
         let step = steps[i];

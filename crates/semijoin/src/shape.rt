@@ -6,7 +6,7 @@ ghost use Rattle.semijoin.specs.Shape.{shaped};
 pub fn is_shaped(envelope: Envelope, tables: &[u32]) -> bool
     ensures { λ r. ⌜ r ≡ shaped envelope (now (tables .entry)) ⌝ }
 {
-    let n = envelopes::parts::in_use(8, envelope.relation_count);
+    let n = ground::used::in_use(8, envelope.relation_count);
     if tables.len() < n {
         return false;
     }

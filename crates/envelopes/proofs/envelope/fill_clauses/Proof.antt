@@ -1,6 +1,6 @@
 use Rattle.envelopes.specs.Parts.{withClauses}
-use Rattle.envelopes.proofs.ClauseLaws.{clause-good, clause-bad}
-use Rattle.envelopes.specs.Clauses.{noClause, clauseAt}
+use Rattle.entries.proofs.ClauseLaws.{clause-good, clause-bad}
+use Rattle.entries.specs.Clauses.{noClause, clauseAt}
 use Prim.Native.Nat.{_-_}
 use Rattle.ground.proofs.FillingLaws.{Filling, filling-more}
 use Rattle.envelopes.proofs.EnvelopeLaws.{filled-start, filled-bad, filled-done, clauses-put}
@@ -10,8 +10,8 @@ use Rattle.envelopes.proofs.envelope.fill_clauses.Statement.{statement}
 use Rattle.envelopes.proofs.envelope.fill_clauses.Tie as tie
 use Rattle.envelopes.proofs.envelope.fill_clauses.Reads as reads
 use Rattle.envelopes.proofs.envelope.fill_clauses.Lts as lts
-use Rattle.envelopes.proofs.clauses.no_clause.Reads as no-clause-reads
-use Rattle.envelopes.proofs.clauses.read_clause.Reads as read-clause-reads
+use Rattle.entries.proofs.clauses.no_clause.Reads as no-clause-reads
+use Rattle.entries.proofs.clauses.read_clause.Reads as read-clause-reads
 use Rattle.envelopes.proofs.envelope.refused_part.Reads as refused-part-reads
 
 abbrev Inv-loop : tie.InvT-loop

@@ -1,6 +1,6 @@
 use Rattle.envelopes.specs.Parts.{withRelations}
-use Rattle.envelopes.proofs.RelationLaws.{relation-taken, relation-refused}
-use Rattle.envelopes.specs.Relations.{noRelation, relationAt}
+use Rattle.entries.proofs.RelationLaws.{relation-taken, relation-refused}
+use Rattle.entries.specs.Relations.{noRelation, relationAt}
 use Prim.Native.Nat.{_-_}
 use Rattle.ground.proofs.FillingLaws.{Filling, filling-more}
 use Rattle.envelopes.proofs.EnvelopeLaws.{filled-start, filled-bad, filled-done, relations-put}
@@ -11,8 +11,8 @@ use Rattle.envelopes.proofs.envelope.fill_relations.Tie as tie
 use Rattle.envelopes.proofs.envelope.fill_relations.Reads as reads
 use Rattle.envelopes.proofs.envelope.fill_relations.Lts as lts
 use Rattle.envelopes.proofs.envelope.refused_part.Reads as refused-part-reads
-use Rattle.envelopes.proofs.relations.no_relation.Reads as no-relation-reads
-use Rattle.envelopes.proofs.relations.read_relation.Reads as read-relation-reads
+use Rattle.entries.proofs.relations.no_relation.Reads as no-relation-reads
+use Rattle.entries.proofs.relations.read_relation.Reads as read-relation-reads
 
 abbrev Inv-loop : tie.InvT-loop
 Inv-loop s at envelope n count sizes out₀ i₀ p₀ end out i p = Filling 8 noRelation (λ _. relationAt count sizes s) n at i p out

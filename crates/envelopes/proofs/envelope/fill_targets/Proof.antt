@@ -1,6 +1,6 @@
 use Rattle.envelopes.specs.Parts.{withTargets}
-use Rattle.envelopes.proofs.PlaceLaws.{place-good, place-bad}
-use Rattle.envelopes.specs.Places.{noPlace, placeAt}
+use Rattle.entries.proofs.PlaceLaws.{place-good, place-bad}
+use Rattle.entries.specs.Places.{noPlace, placeAt}
 use Prim.Native.Nat.{_-_}
 use Rattle.ground.proofs.FillingLaws.{Filling, filling-more}
 use Rattle.envelopes.proofs.EnvelopeLaws.{filled-start, filled-bad, filled-done, targets-put}
@@ -11,8 +11,8 @@ use Rattle.envelopes.proofs.envelope.fill_targets.Tie as tie
 use Rattle.envelopes.proofs.envelope.fill_targets.Reads as reads
 use Rattle.envelopes.proofs.envelope.fill_targets.Lts as lts
 use Rattle.envelopes.proofs.envelope.refused_part.Reads as refused-part-reads
-use Rattle.envelopes.proofs.places.no_place.Reads as no-place-reads
-use Rattle.envelopes.proofs.places.read_place.Reads as read-place-reads
+use Rattle.entries.proofs.places.no_place.Reads as no-place-reads
+use Rattle.entries.proofs.places.read_place.Reads as read-place-reads
 
 abbrev Inv-loop : tie.InvT-loop
 Inv-loop s at envelope n count relations out₀ i₀ p₀ end out i p = Filling 16 noPlace (λ _. placeAt count relations s) n at i p out

@@ -3,9 +3,9 @@ use Rattle.envelopes.proofs.envelope.no_envelope.Statement.{statement}
 use Rattle.envelopes.proofs.envelope.no_envelope.Tie as tie
 use Rattle.envelopes.proofs.envelope.no_envelope.Reads as reads
 use Rattle.envelopes.proofs.envelope.no_envelope.Lts as lts
-use Rattle.envelopes.proofs.clauses.no_clause.Reads as no-clause-reads
-use Rattle.envelopes.proofs.places.no_place.Reads as no-place-reads
-use Rattle.envelopes.proofs.relations.no_relation.Reads as no-relation-reads
+use Rattle.entries.proofs.clauses.no_clause.Reads as no-clause-reads
+use Rattle.entries.proofs.places.no_place.Reads as no-place-reads
+use Rattle.entries.proofs.relations.no_relation.Reads as no-relation-reads
 
 no-relation-requires : tie.Need-no-relation-requires
 no-relation-requires c κs = search needs

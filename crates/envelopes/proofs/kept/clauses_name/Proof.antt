@@ -1,4 +1,4 @@
-use Rattle.envelopes.specs.Clauses.{noClause}
+use Rattle.entries.specs.Clauses.{noClause}
 use Prim.Native.Nat.{_-_}
 use Rattle.ground.specs.Searching.{someFrom}
 use Rattle.ground.proofs.SearchingLaws.{Looking, looking-start}
@@ -11,7 +11,7 @@ use Rattle.envelopes.proofs.kept.clauses_name.Tie as tie
 use Rattle.envelopes.proofs.kept.clauses_name.Reads as reads
 use Rattle.envelopes.proofs.kept.clauses_name.Lts as lts
 use Rattle.envelopes.proofs.kept.kind_names.Reads as kind-names-reads
-use Rattle.envelopes.proofs.parts.in_use.Reads as in-use-reads
+use Rattle.ground.proofs.used.in_use.Reads as in-use-reads
 
 abbrev Inv-loop : tie.InvT-loop
 Inv-loop n place clauses i₀ end i = Looking someFrom (tested (clauseNames place) noClause clauses) end i

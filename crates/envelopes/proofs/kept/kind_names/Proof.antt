@@ -4,7 +4,7 @@ use Rattle.envelopes.proofs.kept.kind_names.Statement.{statement}
 use Rattle.envelopes.proofs.kept.kind_names.Tie as tie
 use Rattle.envelopes.proofs.kept.kind_names.Reads as reads
 use Rattle.envelopes.proofs.kept.kind_names.Lts as lts
-use Rattle.envelopes.proofs.places.same_place.Reads as same-place-reads
+use Rattle.entries.proofs.places.same_place.Reads as same-place-reads
 
 enum-known-kind : tie.Need-enum-known-kind
 enum-known-kind c = search needs

@@ -9,7 +9,7 @@ use Rattle.envelopes.proofs.kept.lowest_bare.Tie as tie
 use Rattle.envelopes.proofs.kept.lowest_bare.Reads as reads
 use Rattle.envelopes.proofs.kept.lowest_bare.Lts as lts
 use Rattle.envelopes.proofs.kept.kept_columns.Reads as kept-columns-reads
-use Rattle.envelopes.proofs.parts.in_use.Reads as in-use-reads
+use Rattle.ground.proofs.used.in_use.Reads as in-use-reads
 
 abbrev Inv-loop : tie.InvT-loop
 Inv-loop envelope end relation₀ relation = Looking firstFrom (bare envelope) end relation

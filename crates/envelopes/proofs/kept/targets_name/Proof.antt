@@ -1,4 +1,4 @@
-use Rattle.envelopes.specs.Places.{noPlace}
+use Rattle.entries.specs.Places.{noPlace}
 use Prim.Native.Nat.{_-_}
 use Rattle.ground.specs.Searching.{someFrom}
 use Rattle.ground.proofs.SearchingLaws.{Looking, looking-start}
@@ -10,8 +10,8 @@ use Rattle.envelopes.proofs.kept.targets_name.Statement.{statement}
 use Rattle.envelopes.proofs.kept.targets_name.Tie as tie
 use Rattle.envelopes.proofs.kept.targets_name.Reads as reads
 use Rattle.envelopes.proofs.kept.targets_name.Lts as lts
-use Rattle.envelopes.proofs.places.same_place.Reads as same-place-reads
-use Rattle.envelopes.proofs.parts.in_use.Reads as in-use-reads
+use Rattle.entries.proofs.places.same_place.Reads as same-place-reads
+use Rattle.ground.proofs.used.in_use.Reads as in-use-reads
 
 abbrev Inv-loop : tie.InvT-loop
 Inv-loop n place targets i₀ end i = Looking someFrom (tested (targetNames place) noPlace targets) end i

@@ -4,7 +4,7 @@ use Rattle.envelopes.proofs.parts.columns_in.Statement.{statement}
 use Rattle.envelopes.proofs.parts.columns_in.Tie as tie
 use Rattle.envelopes.proofs.parts.columns_in.Reads as reads
 use Rattle.envelopes.proofs.parts.columns_in.Lts as lts
-use Rattle.envelopes.proofs.places.column_count.Reads as column-count-reads
+use Rattle.entries.proofs.places.column_count.Reads as column-count-reads
 
 column-count-requires : tie.Need-column-count-requires
 column-count-requires c κs = search needs

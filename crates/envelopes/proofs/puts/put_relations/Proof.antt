@@ -1,5 +1,5 @@
 use Prim.Native.Nat.{_-_}
-use Rattle.envelopes.specs.Relations.{relationBytes}
+use Rattle.entries.specs.Relations.{relationBytes}
 use Rattle.ground.proofs.WritingLaws.{Writing, writing-start, writing-more, writing-place, writing-done}
 use borrow.Author.Needs.{needs}
 use native.Mathlib.Omega.{arith}
@@ -7,7 +7,7 @@ use Rattle.envelopes.proofs.puts.put_relations.Statement.{statement}
 use Rattle.envelopes.proofs.puts.put_relations.Tie as tie
 use Rattle.envelopes.proofs.puts.put_relations.Reads as reads
 use Rattle.envelopes.proofs.puts.put_relations.Lts as lts
-use Rattle.envelopes.proofs.parts.in_use.Reads as in-use-reads
+use Rattle.ground.proofs.used.in_use.Reads as in-use-reads
 use Rattle.envelopes.proofs.puts.put_relation.Reads as put-relation-reads
 
 abbrev Inv-loop : tie.InvT-loop

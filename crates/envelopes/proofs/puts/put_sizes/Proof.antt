@@ -7,7 +7,7 @@ use Rattle.envelopes.proofs.puts.put_sizes.Statement.{statement}
 use Rattle.envelopes.proofs.puts.put_sizes.Tie as tie
 use Rattle.envelopes.proofs.puts.put_sizes.Reads as reads
 use Rattle.envelopes.proofs.puts.put_sizes.Lts as lts
-use Rattle.envelopes.proofs.parts.in_use.Reads as in-use-reads
+use Rattle.ground.proofs.used.in_use.Reads as in-use-reads
 use Rattle.envelopes.proofs.puts.put_size.Reads as put-size-reads
 
 abbrev Inv-loop : tie.InvT-loop

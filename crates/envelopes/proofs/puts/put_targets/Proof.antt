@@ -1,5 +1,5 @@
 use Prim.Native.Nat.{_-_}
-use Rattle.envelopes.specs.Places.{placeBytes}
+use Rattle.entries.specs.Places.{placeBytes}
 use Rattle.ground.proofs.WritingLaws.{Writing, writing-start, writing-more, writing-place, writing-done}
 use borrow.Author.Needs.{needs}
 use native.Mathlib.Omega.{arith}
@@ -7,7 +7,7 @@ use Rattle.envelopes.proofs.puts.put_targets.Statement.{statement}
 use Rattle.envelopes.proofs.puts.put_targets.Tie as tie
 use Rattle.envelopes.proofs.puts.put_targets.Reads as reads
 use Rattle.envelopes.proofs.puts.put_targets.Lts as lts
-use Rattle.envelopes.proofs.parts.in_use.Reads as in-use-reads
+use Rattle.ground.proofs.used.in_use.Reads as in-use-reads
 use Rattle.envelopes.proofs.puts.put_place.Reads as put-place-reads
 
 abbrev Inv-loop : tie.InvT-loop

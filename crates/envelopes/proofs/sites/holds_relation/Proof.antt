@@ -9,7 +9,7 @@ use Rattle.envelopes.proofs.sites.holds_relation.Statement.{statement}
 use Rattle.envelopes.proofs.sites.holds_relation.Tie as tie
 use Rattle.envelopes.proofs.sites.holds_relation.Reads as reads
 use Rattle.envelopes.proofs.sites.holds_relation.Lts as lts
-use Rattle.envelopes.proofs.parts.in_use.Reads as in-use-reads
+use Rattle.ground.proofs.used.in_use.Reads as in-use-reads
 use Rattle.envelopes.proofs.sites.is_at.Reads as is-at-reads
 
 abbrev Inv-loop : tie.InvT-loop

@@ -4,7 +4,7 @@ use Rattle.envelopes.proofs.sites.is_at.Statement.{statement}
 use Rattle.envelopes.proofs.sites.is_at.Tie as tie
 use Rattle.envelopes.proofs.sites.is_at.Reads as reads
 use Rattle.envelopes.proofs.sites.is_at.Lts as lts
-use Rattle.envelopes.proofs.parts.in_use.Reads as in-use-reads
+use Rattle.ground.proofs.used.in_use.Reads as in-use-reads
 use Rattle.envelopes.proofs.sites.site_of.Reads as site-of-reads
 
 in-use-requires : tie.Need-in-use-requires

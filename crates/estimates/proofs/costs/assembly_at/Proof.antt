@@ -6,7 +6,7 @@ use Rattle.estimates.proofs.costs.assembly_at.Statement.{statement}
 use Rattle.estimates.proofs.costs.assembly_at.Tie as tie
 use Rattle.estimates.proofs.costs.assembly_at.Reads as reads
 use Rattle.estimates.proofs.costs.assembly_at.Lts as lts
-use Rattle.envelopes.proofs.parts.in_use.Reads as in-use-reads
+use Rattle.ground.proofs.used.in_use.Reads as in-use-reads
 use Rattle.estimates.proofs.costs.sent.Reads as sent-reads
 
 abbrev Inv-loop : tie.InvT-loop

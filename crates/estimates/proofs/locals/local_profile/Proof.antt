@@ -6,7 +6,7 @@ use Rattle.estimates.proofs.locals.local_profile.Statement.{statement}
 use Rattle.estimates.proofs.locals.local_profile.Tie as tie
 use Rattle.estimates.proofs.locals.local_profile.Reads as reads
 use Rattle.estimates.proofs.locals.local_profile.Lts as lts
-use Rattle.envelopes.proofs.parts.in_use.Reads as in-use-reads
+use Rattle.ground.proofs.used.in_use.Reads as in-use-reads
 use Rattle.estimates.proofs.locals.after_selections.Reads as after-selections-reads
 use Rattle.estimates.proofs.profiles.given.Reads as given-reads
 use Rattle.papers.proofs.labels.labels_of.Reads as labels-of-reads

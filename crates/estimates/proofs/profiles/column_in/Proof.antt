@@ -5,7 +5,7 @@ use Rattle.estimates.proofs.profiles.column_in.Statement.{statement}
 use Rattle.estimates.proofs.profiles.column_in.Tie as tie
 use Rattle.estimates.proofs.profiles.column_in.Reads as reads
 use Rattle.estimates.proofs.profiles.column_in.Lts as lts
-use Rattle.envelopes.proofs.relations.column_at.Reads as column-at-reads
+use Rattle.entries.proofs.relations.column_at.Reads as column-at-reads
 use Rattle.estimates.proofs.profiles.no_column.Reads as no-column-reads
 
 -- src/profiles.rt:36:13

@@ -4,7 +4,7 @@ use Rattle.estimates.proofs.profiles.domain_size.Statement.{statement}
 use Rattle.estimates.proofs.profiles.domain_size.Tie as tie
 use Rattle.estimates.proofs.profiles.domain_size.Reads as reads
 use Rattle.estimates.proofs.profiles.domain_size.Lts as lts
-use Rattle.envelopes.proofs.parts.in_use.Reads as in-use-reads
+use Rattle.ground.proofs.used.in_use.Reads as in-use-reads
 use Rattle.estimates.proofs.profiles.column_of.Reads as column-of-reads
 
 -- src/profiles.rt:38:9

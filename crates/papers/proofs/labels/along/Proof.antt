@@ -4,7 +4,7 @@ use Rattle.papers.proofs.labels.along.Statement.{statement}
 use Rattle.papers.proofs.labels.along.Tie as tie
 use Rattle.papers.proofs.labels.along.Reads as reads
 use Rattle.papers.proofs.labels.along.Lts as lts
-use Rattle.envelopes.proofs.clauses.domain_of.Reads as domain-of-reads
+use Rattle.entries.proofs.clauses.domain_of.Reads as domain-of-reads
 use Rattle.papers.proofs.labels.column_number.Reads as column-number-reads
 use Rattle.papers.proofs.labels.constant_number.Reads as constant-number-reads
 use Rattle.papers.proofs.labels.made_one.Reads as made-one-reads

@@ -6,7 +6,7 @@ use Rattle.papers.proofs.labels.by_clauses.Statement.{statement}
 use Rattle.papers.proofs.labels.by_clauses.Tie as tie
 use Rattle.papers.proofs.labels.by_clauses.Reads as reads
 use Rattle.papers.proofs.labels.by_clauses.Lts as lts
-use Rattle.envelopes.proofs.parts.in_use.Reads as in-use-reads
+use Rattle.ground.proofs.used.in_use.Reads as in-use-reads
 use Rattle.papers.proofs.labels.along.Reads as along-reads
 
 abbrev Inv-loop : tie.InvT-loop

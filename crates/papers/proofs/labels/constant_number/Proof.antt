@@ -8,7 +8,7 @@ use Rattle.papers.proofs.labels.constant_number.Statement.{statement}
 use Rattle.papers.proofs.labels.constant_number.Tie as tie
 use Rattle.papers.proofs.labels.constant_number.Reads as reads
 use Rattle.papers.proofs.labels.constant_number.Lts as lts
-use Rattle.envelopes.proofs.parts.in_use.Reads as in-use-reads
+use Rattle.ground.proofs.used.in_use.Reads as in-use-reads
 use Rattle.papers.proofs.labels.kind_selects.Reads as kind-selects-reads
 
 abbrev Inv-loop : tie.InvT-loop

@@ -4,7 +4,7 @@ use Rattle.papers.proofs.labels.kind_selects.Statement.{statement}
 use Rattle.papers.proofs.labels.kind_selects.Tie as tie
 use Rattle.papers.proofs.labels.kind_selects.Reads as reads
 use Rattle.papers.proofs.labels.kind_selects.Lts as lts
-use Rattle.envelopes.proofs.clauses.domain_of.Reads as domain-of-reads
+use Rattle.entries.proofs.clauses.domain_of.Reads as domain-of-reads
 
 enum-told : tie.Need-enum-told
 enum-told c = search needs

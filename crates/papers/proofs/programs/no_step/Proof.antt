@@ -3,7 +3,7 @@ use Rattle.papers.proofs.programs.no_step.Statement.{statement}
 use Rattle.papers.proofs.programs.no_step.Tie as tie
 use Rattle.papers.proofs.programs.no_step.Reads as reads
 use Rattle.papers.proofs.programs.no_step.Lts as lts
-use Rattle.envelopes.proofs.places.no_place.Reads as no-place-reads
+use Rattle.entries.proofs.places.no_place.Reads as no-place-reads
 
 no-place-requires : tie.Need-no-place-requires
 no-place-requires c κs = search needs

@@ -7,7 +7,7 @@ use Rattle.papers.proofs.puts.put_steps.Statement.{statement}
 use Rattle.papers.proofs.puts.put_steps.Tie as tie
 use Rattle.papers.proofs.puts.put_steps.Reads as reads
 use Rattle.papers.proofs.puts.put_steps.Lts as lts
-use Rattle.envelopes.proofs.parts.in_use.Reads as in-use-reads
+use Rattle.ground.proofs.used.in_use.Reads as in-use-reads
 use Rattle.papers.proofs.puts.put_step.Reads as put-step-reads
 
 abbrev Inv-loop : tie.InvT-loop

@@ -5,7 +5,7 @@ use Rattle.papers.proofs.steps.is_place.Tie as tie
 use Rattle.papers.proofs.steps.is_place.Reads as reads
 use Rattle.papers.proofs.steps.is_place.Lts as lts
 use Rattle.envelopes.proofs.parts.columns_in.Reads as columns-in-reads
-use Rattle.envelopes.proofs.parts.in_use.Reads as in-use-reads
+use Rattle.ground.proofs.used.in_use.Reads as in-use-reads
 
 in-use-requires : tie.Need-in-use-requires
 in-use-requires c κs = search needs

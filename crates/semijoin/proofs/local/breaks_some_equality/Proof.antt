@@ -13,7 +13,7 @@ use Rattle.semijoin.proofs.local.breaks_some_equality.Statement.{statem
 use Rattle.semijoin.proofs.local.breaks_some_equality.Tie as tie
 use Rattle.semijoin.proofs.local.breaks_some_equality.Reads as reads
 use Rattle.semijoin.proofs.local.breaks_some_equality.Lts as lts
-use Rattle.envelopes.proofs.parts.in_use.Reads as in-use-reads
+use Rattle.ground.proofs.used.in_use.Reads as in-use-reads
 use Rattle.semijoin.proofs.local.breaks_equality.Reads as breaks-equality-reads
 
 abbrev Inv-loop : tie.InvT-loop

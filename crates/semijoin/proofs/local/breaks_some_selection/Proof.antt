@@ -13,7 +13,7 @@ use Rattle.semijoin.proofs.local.breaks_some_selection.Statement.{state
 use Rattle.semijoin.proofs.local.breaks_some_selection.Tie as tie
 use Rattle.semijoin.proofs.local.breaks_some_selection.Reads as reads
 use Rattle.semijoin.proofs.local.breaks_some_selection.Lts as lts
-use Rattle.envelopes.proofs.parts.in_use.Reads as in-use-reads
+use Rattle.ground.proofs.used.in_use.Reads as in-use-reads
 use Rattle.semijoin.proofs.local.breaks_selection.Reads as breaks-selection-reads
 
 abbrev Inv-loop : tie.InvT-loop

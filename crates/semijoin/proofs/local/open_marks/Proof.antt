@@ -10,7 +10,7 @@ use Rattle.semijoin.proofs.local.open_marks.Statement.{statement}
 use Rattle.semijoin.proofs.local.open_marks.Tie as tie
 use Rattle.semijoin.proofs.local.open_marks.Reads as reads
 use Rattle.semijoin.proofs.local.open_marks.Lts as lts
-use Rattle.envelopes.proofs.parts.in_use.Reads as in-use-reads
+use Rattle.ground.proofs.used.in_use.Reads as in-use-reads
 use Rattle.papers.proofs.implied.equalities_by.Reads as equalities-by-reads
 use Rattle.papers.proofs.implied.selections_by.Reads as selections-by-reads
 use Rattle.papers.proofs.labels.labels_of.Reads as labels-of-reads

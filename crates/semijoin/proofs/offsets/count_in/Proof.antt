@@ -4,7 +4,7 @@ use Rattle.semijoin.proofs.offsets.count_in.Statement.{statement}
 use Rattle.semijoin.proofs.offsets.count_in.Tie as tie
 use Rattle.semijoin.proofs.offsets.count_in.Reads as reads
 use Rattle.semijoin.proofs.offsets.count_in.Lts as lts
-use Rattle.envelopes.proofs.parts.in_use.Reads as in-use-reads
+use Rattle.ground.proofs.used.in_use.Reads as in-use-reads
 
 -- src/offsets.rt:20:8
 in-use-requires : tie.Need-in-use-requires

@@ -6,7 +6,7 @@ use Rattle.semijoin.proofs.offsets.row_count.Statement.{statement}
 use Rattle.semijoin.proofs.offsets.row_count.Tie as tie
 use Rattle.semijoin.proofs.offsets.row_count.Reads as reads
 use Rattle.semijoin.proofs.offsets.row_count.Lts as lts
-use Rattle.envelopes.proofs.parts.in_use.Reads as in-use-reads
+use Rattle.ground.proofs.used.in_use.Reads as in-use-reads
 use Rattle.semijoin.proofs.offsets.extent_of.Reads as extent-of-reads
 
 -- src/offsets.rt:57:9

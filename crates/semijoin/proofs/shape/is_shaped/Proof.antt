@@ -7,7 +7,7 @@ use Rattle.semijoin.proofs.shape.is_shaped.Statement.{statement}
 use Rattle.semijoin.proofs.shape.is_shaped.Tie as tie
 use Rattle.semijoin.proofs.shape.is_shaped.Reads as reads
 use Rattle.semijoin.proofs.shape.is_shaped.Lts as lts
-use Rattle.envelopes.proofs.parts.in_use.Reads as in-use-reads
+use Rattle.ground.proofs.used.in_use.Reads as in-use-reads
 use Rattle.semijoin.proofs.offsets.extent_of.Reads as extent-of-reads
 
 abbrev Inv-loop : tie.InvT-loop

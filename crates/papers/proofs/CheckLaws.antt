@@ -1,0 +1,85 @@
+-- The laws of both papers checked: what an answer says of the outcome, what good papers are, and each return.
+use mathlib.Core.Path.{_≡_, refl, sym, ap, _∙_}
+use Prim.Native.Nat.{ℕ}
+use Rattle.ground.specs.Outcome.{Outcome, next, nextOf, verdictOf, valueOf}
+use Rattle.ground.specs.Outcome.Outcome.{good, bad}
+use Rattle.ground.specs.declared.Verdict.the-variants.{Taken, Refused}
+use Rattle.ground.proofs.OutcomeLaws.{taken-is, refused-is, next-good}
+use Rattle.envelopes.specs.Parts.{noEnvelope}
+use Rattle.envelopes.specs.Envelope.{checkEnvelope, shownEnvelope}
+use Rattle.envelopes.specs.Rules.{Within, tidy}
+use Rattle.envelopes.specs.declared.envelope.Envelope.{Envelope}
+use Rattle.envelopes.specs.declared.reading.EnvelopeRead.{EnvelopeRead}
+use Rattle.envelopes.proofs.ReadingLaws.{read-taken, read-refused}
+use Rattle.envelopes.proofs.ExactEnvelope.{check-sound}
+use Rattle.papers.specs.Programs.{noProgram, programAgainst, programBytes, readProgram, checkProgram, shownProgram, Acceptable, tidyProgram}
+use Rattle.papers.specs.Checks.{noPapers, papersOf, shownPapers}
+use Rattle.papers.specs.declared.programs.Program.{Program}
+use Rattle.papers.specs.declared.programs.ProgramRead.{ProgramRead}
+use Rattle.papers.specs.declared.checks.Papers.{Papers}
+use Rattle.papers.specs.declared.checks.PapersRead.{PapersRead}
+use Rattle.papers.proofs.ProgramCodeLaws.{program-taken, program-refused}
+use Rattle.papers.proofs.ExactPrograms.{program-bytes, program-exact}
+
+pub papers-taken : (o : Outcome Papers) (x : PapersRead) → x ≡ shownPapers o → x .verdict ≡ Taken → o ≡ good (x .papers) (nextOf o)
+papers-taken o x e g = taken-is noPapers o (sym (ap (λ (c : PapersRead). c .verdict) e) ∙ g) ∙ simp e
+
+pub papers-refused : (o : Outcome Papers) (x : PapersRead) (m q : ℕ) → x ≡ shownPapers o → x .verdict ≡ Refused m q → o ≡ bad m q
+papers-refused o x m q e g = refused-is o m q (sym (ap (λ (c : PapersRead). c .verdict) e) ∙ g)
+
+pub papers-none : (m q : ℕ) (e : Envelope) (p : Program) → e ≡ noEnvelope → p ≡ noProgram
+    → record { verdict = Refused m q; papers = record { envelope = e; program = p } } ≡ shownPapers (bad m q)
+unfolding verdictOf valueOf
+papers-none m q e p f g = rw (f, g) refl
+
+-- good papers are within the sizes and rules, each as it reads back
+pub record GoodPapers (q : Papers) : Type 0 where
+  pub within : Within (q .envelope)
+  pub tidied : tidy (q .envelope) ≡ q .envelope
+  pub acceptable : Acceptable (q .envelope) (q .program)
+  pub trimmed : tidyProgram (q .program) ≡ q .program
+
+pub papers-sound : (e : Envelope) (p : Program) (q : Papers) (u : ℕ) → papersOf e p ≡ good q u → GoodPapers q
+unfolding papersOf
+papers-sound e p q u h =
+    let (f, v, check, rest) = next-good (checkEnvelope e) _ q u h in
+    let (g, w, read, made) = next-good (programAgainst f (programBytes p)) _ q u rest in
+    let sound = check-sound e f v check .0 in
+    let exact = program-exact f (sound .0) (programBytes p) g w (program-bytes p) .0 read .0 in
+    let same : record { envelope = f; program = g } ≡ q = cc in
+    let found : GoodPapers (record { envelope = f; program = g }) =
+    record { within = sound .0; tidied = sound .1; acceptable = exact .0; trimmed = exact .1 }
+    in
+    rw same at found
+
+-- ---- each return
+
+module _ (e : Envelope) (p : Program) (c : EnvelopeRead) (g : c ≡ shownEnvelope (checkEnvelope e)) where
+  pub papers-envelope : (m q : ℕ) (z : PapersRead) → c .verdict ≡ Refused m q → z ≡ shownPapers (bad m q) → z ≡ shownPapers (papersOf e p)
+  unfolding papersOf
+  papers-envelope m q z h k = k ∙ simp (read-refused (checkEnvelope e) c m q g h)
+
+  module _ (h : c .verdict ≡ Taken) (x : ProgramRead) (k : x ≡ shownProgram (checkProgram e p)) where
+    taken : checkEnvelope e ≡ good (c .envelope) (nextOf (checkEnvelope e))
+    taken = read-taken (checkEnvelope e) c g h
+
+    against : checkProgram e p ≡ programAgainst (c .envelope) (programBytes p)
+    unfolding checkProgram readProgram
+    against = ap (λ (o : Outcome Envelope). next o (λ f _. programAgainst f (programBytes p))) taken
+
+    as-papers : papersOf e p ≡ next (checkProgram e p) (λ q at. good (record { envelope = c .envelope; program = q }) at)
+    unfolding papersOf
+    as-papers =
+        ap
+        (λ (o : Outcome Envelope).
+        next o (λ f _. next (programAgainst f (programBytes p)) (λ q at. good (record { envelope = f; program = q }) at)))
+        taken
+        ∙ ap (λ (o : Outcome Program). next o (λ q at. good (record { envelope = c .envelope; program = q }) at)) (sym against)
+
+    pub papers-program : (m q : ℕ) (z : PapersRead) → x .verdict ≡ Refused m q → z ≡ shownPapers (bad m q) → z ≡ shownPapers (papersOf e p)
+    papers-program m q z v y = y ∙ simp (as-papers, program-refused (checkProgram e p) x m q k v)
+
+    pub papers-good : x .verdict ≡ Taken
+        → record { verdict = Taken; papers = record { envelope = c .envelope; program = x .program } } ≡ shownPapers (papersOf e p)
+    unfolding verdictOf valueOf
+    papers-good v = simp (as-papers, program-taken (checkProgram e p) x k v)
