@@ -20,7 +20,8 @@ pub enum Legality {
     Refused { number: u8, position: usize },
 }
 
-fn is_place(envelope: Envelope, place: Place) -> bool
+// Whether a column named by its relation is one of the envelope.
+pub fn is_place(envelope: Envelope, place: Place) -> bool
     ensures { λ r. ⌜ r ≡ isPlace envelope place ⌝ }
 {
     if ground::used::in_use(8, envelope.relation_count) <= place.relation as usize {

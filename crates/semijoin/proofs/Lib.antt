@@ -3,6 +3,8 @@ pub mod PartLaws
 pub mod SumLaws
 pub mod OffsetLaws
 pub mod ShapeLaws
+pub mod JudgedLaws
+pub mod RisingLaws
 pub mod MarkLaws
 pub mod ReducedLaws
 pub mod PromiseLaws
@@ -11,9 +13,11 @@ pub mod AnswerLaws
 pub mod TidyLaws
 pub mod RunLaws
 pub mod OffsetCodeLaws
-pub mod AmongCodeLaws
+pub mod RisingCodeLaws
 pub mod ExtentCodeLaws
+pub mod RowCodeLaws
 pub mod ValueCodeLaws
 pub mod SieveCodeLaws
 pub mod LocalCodeLaws
+pub mod CallCodeLaws
 pub mod RunCodeLaws

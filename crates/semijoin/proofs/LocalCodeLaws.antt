@@ -28,8 +28,8 @@ use Rattle.papers.specs.declared.implied.Equal.{Equal}
 use Rattle.papers.specs.declared.implied.Equalities.{Equalities}
 use Rattle.papers.proofs.ImpliedLaws.{selections-by-labels, equalities-by-labels}
 use Rattle.semijoin.specs.Offsets.{countIn, rowsBefore, rowsAt}
-use Rattle.semijoin.specs.Local.{passes, openedAt, opened}
-use Rattle.semijoin.specs.Extents.{extentOf, rowsOver, passesBy, openingMark}
+use Rattle.semijoin.specs.Local.{passesBy, passes, openedAt, opened}
+use Rattle.semijoin.specs.Extents.{extentOf, rowsOver, openingMark}
 use Rattle.semijoin.specs.declared.offsets.Extent.{Extent}
 use Rattle.semijoin.proofs.OffsetLaws.{rows-at, rowsAt-length, rows-none, rows-more}
 use Rattle.semijoin.proofs.ExtentCodeLaws.{rows-over}

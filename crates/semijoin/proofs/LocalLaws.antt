@@ -25,7 +25,7 @@ use Rattle.papers.specs.declared.implied.Selected.{Selected}
 use Rattle.papers.specs.declared.implied.Equal.{Equal}
 use Rattle.papers.proofs.ImpliedLaws.{selection-met, equality-met}
 use Rattle.semijoin.specs.Offsets.{countIn, rowsBefore, firstMark, rowCount, rowsAt, marksAt}
-use Rattle.semijoin.specs.Local.{passes, openedAt, opened}
+use Rattle.semijoin.specs.Local.{passesBy, passes, openedAt, opened}
 use Rattle.semijoin.specs.Marks.{keptOf, keptRows, isKept}
 use Rattle.semijoin.specs.Promise.{rowOf, keptAt, Needed}
 use Rattle.semijoin.proofs.OffsetLaws.{rowsAt-length, rows-none, rows-more}
@@ -33,7 +33,7 @@ use Rattle.semijoin.proofs.MarkLaws.{kept-test}
 
 -- a row that the answer needs passes
 pub needed-passes : (e : Envelope) (whole : List ℕ) (r : ℕ) (row : Row) → Needed e whole r row → passes e r row ≡ true
-unfolding passes
+unfolding passes passesBy
 needed-passes e whole r row (rows, m, met, w) =
     rw (← w)
     (and-both

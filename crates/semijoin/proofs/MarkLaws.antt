@@ -12,7 +12,8 @@ use lib.Seq.{take-suc, length-take-le}
 use Rattle.ground.specs.Tests.{pick}
 use Rattle.ground.specs.Lists.{consIf, filter}
 use Rattle.papers.specs.Meaning.{Row, Table, wordIn}
-use Rattle.semijoin.specs.Marks.{isKept, keptOf, among, sieved, removedOf}
+use Rattle.semijoin.specs.Rising.{among}
+use Rattle.semijoin.specs.Marks.{isKept, keptOf, sieved, removedOf}
 
 -- ---- kept rows
 

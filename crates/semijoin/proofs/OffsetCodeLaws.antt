@@ -15,7 +15,7 @@ use Rattle.semijoin.specs.Shape.{shaped}
 use Rattle.semijoin.specs.Extents.{extentOf}
 use Rattle.semijoin.specs.declared.offsets.Extent.{Extent}
 use Rattle.semijoin.proofs.OffsetLaws.{count-inside, count-outside, rows-none, rows-more, first-none, first-more}
-use Rattle.semijoin.proofs.ShapeLaws.{shaped-shape, shape-shaped, columns-most}
+use Rattle.semijoin.proofs.ShapeLaws.{shaped-shape, shape-shaped, shape-counted, columns-most}
 
 -- a 32-bit count of rows times at most 8 columns
 pub words-most : (n k : ℕ) → n < 4294967296 → k ≤ 8 → n * k ≤ 34359738368
@@ -76,7 +76,7 @@ module _ (e : Envelope) (words : List ℕ) where
   -- ---- shape
 
   pub shape-short : (n : ℕ) → n ≡ min 8 (e .«relation_count») → length words < n → false ≡ shaped e words
-  shape-short n g h = sym (not-holds (shaped e words) λ t. omega (arith, shaped-shape e words t .counted))
+  shape-short n g h = sym (not-holds (shaped e words) λ t. omega (arith, shape-counted e words (shaped-shape e words t)))
 
   pub shape-long : 16384 < length words → false ≡ shaped e words
   shape-long h = sym (not-holds (shaped e words) λ t. omega (arith, shaped-shape e words t .within))
@@ -97,7 +97,6 @@ module _ (e : Envelope) (words : List ℕ) where
         sym
         (shape-shaped e words
         (record {
-          counted = omega arith;
           few = λ r. split n r (λ a. omega (arith, count-none r n g a)) (λ a. omega (arith, count-is r n g a, k .each r (omega arith)));
           whole = sym w ∙ ends;
           within = m;

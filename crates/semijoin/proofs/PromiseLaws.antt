@@ -25,7 +25,9 @@ use Rattle.papers.specs.declared.steps.Step.{Step}
 use Rattle.papers.proofs.StepLaws.{legal-step}
 use Rattle.papers.proofs.MeaningLaws.{columns-equal}
 use Rattle.semijoin.specs.Offsets.{countIn, firstMark, rowsAt, marksAt}
-use Rattle.semijoin.specs.Marks.{isKept, keptRows, valuesOf, risingValues, among, sieved, reducedBy}
+use Rattle.semijoin.specs.Rising.{among}
+use Rattle.semijoin.specs.Marks.{isKept, keptRows, sieved, reducedBy}
+use Rattle.semijoin.specs.Values.{valuesOf, risingValues}
 use Rattle.semijoin.specs.Promise.{rowOf, wordOf, keptAt, SameRows, FewerRows, FewerValues, Needed, Covers, Holds, Promise}
 use Rattle.semijoin.proofs.OffsetLaws.{rowsAt-length, table-at, tables-length}
 use Rattle.semijoin.proofs.MarkLaws.{kept-mem, kept-from, sieved-at, sieved-past, kept-length}

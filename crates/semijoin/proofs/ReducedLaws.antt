@@ -12,7 +12,8 @@ use Rattle.envelopes.specs.Parts.{relationCount}
 use Rattle.entries.specs.declared.places.Place.{Place}
 use Rattle.envelopes.specs.declared.envelope.Envelope.{Envelope}
 use Rattle.semijoin.specs.Offsets.{countIn, firstMark, rowCount, rowsAt, marksAt}
-use Rattle.semijoin.specs.Marks.{keptOf, keptRows, among, sieved, reducedBy, removedBy}
+use Rattle.semijoin.specs.Rising.{among}
+use Rattle.semijoin.specs.Marks.{keptOf, keptRows, sieved, reducedBy, removedBy}
 use Rattle.semijoin.proofs.PartLaws.{none, part-length, part-getD, part-stand, part-before, part-behind}
 use Rattle.semijoin.proofs.OffsetLaws.{count-outside, marks-end, rowsAt-length}
 use Rattle.semijoin.proofs.MarkLaws.{occurs, sieved-length, sieved-at, kept-sieved, removed-kept, sieved-alike}

@@ -1,6 +1,6 @@
 -- What the functions of the one-place run answer: steps one after the other, and each return of the run.
 use mathlib.Core.Path.{_≡_, refl, sym, ap, _∙_}
-use mathlib.Core.Bool.{Bool, true, false, not}
+use mathlib.Core.Bool.{Bool, true, false}
 use mathlib.Core.List.{List}
 use Prim.Native.Nat.{ℕ, zero, suc, _+_, _≤_, _<_, min}
 use native.Mathlib.Nat.{min-le-left}
@@ -8,18 +8,14 @@ use native.Mathlib.Numerals.{add-one}
 use native.Mathlib.Omega.{arith}
 use lib.ListN.{length, getD, take, drop, replicate, length-take, drop-of-length-le}
 use lib.Seq.{sets, length-sets, drop-cons, getD-take}
-use lib.Dec.{ltb}
-use borrow.Author.Tests.{lt-ltb, le-ltb, not-true, not-false, ltb-true}
 use Rattle.ground.specs.Lists.{Every, below}
 use Rattle.ground.specs.Outcome.{Outcome, verdictOf, next, nextOf}
 use Rattle.ground.specs.Outcome.Outcome.{good}
 use Rattle.ground.specs.declared.Verdict.{Verdict}
 use Rattle.ground.specs.declared.Verdict.the-variants.{Taken, Refused}
-use Rattle.ground.proofs.TestLaws.{and-left, and-right}
 use Rattle.ground.proofs.ListLaws.{each-alike}
 use Rattle.ground.proofs.EveryLaws.{every-getD}
 use Rattle.ground.proofs.NumbersLaws.{below-from}
-use Rattle.fields.specs.Refusals.{wrongShape, tooShort}
 use Rattle.envelopes.specs.Envelope.{checkEnvelope, shownEnvelope}
 use Rattle.envelopes.specs.Parts.{relationCount, columnsIn}
 use Rattle.envelopes.specs.Rules.{Within}
@@ -28,7 +24,7 @@ use Rattle.envelopes.specs.declared.envelope.Envelope.{Envelope}
 use Rattle.envelopes.specs.declared.reading.EnvelopeRead.{EnvelopeRead}
 use Rattle.envelopes.proofs.ReadingLaws.{read-taken, read-refused}
 use Rattle.envelopes.proofs.ExactEnvelope.{check-sound}
-use Rattle.papers.specs.Steps.{legal, isPlace}
+use Rattle.papers.specs.Steps.{legal}
 use Rattle.papers.specs.Programs.{noStep, stepsOf, programAgainst, programBytes, readProgram, checkProgram, shownProgram}
 use Rattle.papers.specs.declared.steps.Step.{Step}
 use Rattle.papers.specs.declared.programs.Program.{Program}
@@ -36,17 +32,17 @@ use Rattle.papers.specs.declared.programs.ProgramRead.{ProgramRead}
 use Rattle.papers.proofs.StepLaws.{legal-step}
 use Rattle.papers.proofs.ProgramCodeLaws.{program-taken, program-refused}
 use Rattle.papers.proofs.ExactPrograms.{program-bytes, program-exact}
-use Rattle.semijoin.specs.Offsets.{rowCount, firstMark, marksAt, rowsAt}
-use Rattle.semijoin.specs.Shape.{shaped}
-use Rattle.semijoin.specs.Local.{openedAt, opened}
-use Rattle.semijoin.specs.Marks.{stepped, steppedAll, reducedBy, sieved, valuesOf}
-use Rattle.semijoin.specs.Run.{runMarks, runChecked, runOutcome, marksAfter}
+use Rattle.semijoin.specs.Offsets.{firstMark, marksAt, rowsAt}
+use Rattle.semijoin.specs.Shape.{marksTests, judgement}
+use Rattle.semijoin.specs.Local.{openedAt, opened, openedIn}
+use Rattle.semijoin.specs.Marks.{reducedBy, sieved, marksAfter}
+use Rattle.semijoin.specs.Values.{valuesOf}
+use Rattle.semijoin.specs.Run.{stepped, steppedAll, runMarks, runChecked, runOutcome}
+use Rattle.semijoin.proofs.JudgedLaws.{judge-refused, judge-taken}
+use Rattle.semijoin.proofs.SieveCodeLaws.{place-relation, place-column}
+use Rattle.semijoin.proofs.CallCodeLaws.{after-refused, after-taken}
 
 -- ---- a legal step is one that can be taken
-
-place-inside : (e : Envelope) (a : Place) → isPlace e a ≡ true → (a .relation < relationCount e) × (a .column < columnsIn e (a .relation))
-unfolding isPlace
-place-inside e a t = (ltb-true _ _ (and-left _ _ t), ltb-true _ _ (and-right (ltb (a .relation) (relationCount e)) _ t))
 
 pub record Ready (e : Envelope) (s : Step) : Type 0 where
   pub left : (s .left .relation < relationCount e) × (s .left .column < columnsIn e (s .left .relation))
@@ -56,7 +52,11 @@ pub record Ready (e : Envelope) (s : Step) : Type 0 where
 pub legal-ready : (e : Envelope) (s : Step) → legal e s ≡ true → Ready e s
 legal-ready e s t =
     let k = legal-step e s t in
-    record { left = place-inside e (s .left) (k .left); right = place-inside e (s .right) (k .right); differ = k .differ }
+    record {
+      left = (place-relation e (s .left) (k .left), place-column e (s .left) (k .left));
+      right = (place-relation e (s .right) (k .right), place-column e (s .right) (k .right));
+      differ = k .differ;
+    }
 
 pub legal-used : (e : Envelope) (p : Program) → Every (λ (s : Step). legal e s ≡ true) (stepsOf p)
     → Every (λ (s : Step). legal e s ≡ true) (take (p .count) (p .steps))
@@ -115,43 +115,37 @@ module _ (e : Envelope) (p : Program) (words marks : List ℕ) where
   abbrev Ran : Verdict → List ℕ → Type 0
   Ran v after = (v ≡ verdictOf (runChecked e p words marks)) × (after ≡ marksAfter marks (runChecked e p words marks))
 
-  module _ (b : Bool) (f : b ≡ shaped e words) where
-    pub run-shapeless : not b ≡ true → Ran (Refused wrongShape 0) marks
-    unfolding runChecked verdictOf marksAfter
-    run-shapeless t = rw (← f, not-true b t) (refl, refl)
+  everywhere : opened e words (λ r. getD (replicate 8 true) r false) ≡ opened e words (λ _. true)
+  unfolding opened
+  everywhere =
+      each-alike _ _ (below (relationCount e)) λ r m.
+      ap (λ (q : Bool). openedAt e words q r) (is-true r (omega (arith, below-from (relationCount e) m, min-le-left 8 (e .«relation_count»))))
+    where
+      is-true : (r : ℕ) → r < 8 → getD (replicate 8 true) r false ≡ true
+      is-true zero h = refl
+      is-true (suc zero) h = refl
+      is-true (suc (suc zero)) h = refl
+      is-true (suc (suc (suc zero))) h = refl
+      is-true (suc (suc (suc (suc zero)))) h = refl
+      is-true (suc (suc (suc (suc (suc zero))))) h = refl
+      is-true (suc (suc (suc (suc (suc (suc zero)))))) h = refl
+      is-true (suc (suc (suc (suc (suc (suc (suc zero))))))) h = refl
+      is-true (suc (suc (suc (suc (suc (suc (suc (suc r)))))))) h = absurd (omega arith)
 
-    module _ (n : ℕ) (g : n ≡ rowCount e words) where
-      pub run-short : not b ≡ false → length marks < n → Ran (Refused tooShort 0) marks
-      unfolding runChecked verdictOf marksAfter
-      run-short t h =
-          let k : length marks < rowCount e words = omega arith in
-          rw (← f, not-false b t, lt-ltb (length marks) (rowCount e words) k) (refl, refl)
+  module _ (v : Verdict) (g : v ≡ judgement (marksTests e words (length marks))) where
+    pub run-refused : (m q : ℕ) → v ≡ Refused m q → Ran (Refused m q) marks
+    unfolding runChecked
+    run-refused m q h =
+        after-refused marks (runChecked e p words marks) m q
+        (judge-refused (marksTests e words (length marks)) v g (good (runMarks e p words marks) 0) m q h)
 
-      everywhere : opened e words (λ r. getD (replicate 8 true) r false) ≡ opened e words (λ _. true)
-      unfolding opened
-      everywhere =
-          each-alike _ _ (below (relationCount e)) λ r m.
-          ap (λ (q : Bool). openedAt e words q r) (is-true r (omega (arith, below-from (relationCount e) m, min-le-left 8 (e .«relation_count»))))
-        where
-          is-true : (r : ℕ) → r < 8 → getD (replicate 8 true) r false ≡ true
-          is-true zero h = refl
-          is-true (suc zero) h = refl
-          is-true (suc (suc zero)) h = refl
-          is-true (suc (suc (suc zero))) h = refl
-          is-true (suc (suc (suc (suc zero)))) h = refl
-          is-true (suc (suc (suc (suc (suc zero))))) h = refl
-          is-true (suc (suc (suc (suc (suc (suc zero)))))) h = refl
-          is-true (suc (suc (suc (suc (suc (suc (suc zero))))))) h = refl
-          is-true (suc (suc (suc (suc (suc (suc (suc (suc r)))))))) h = absurd (omega arith)
-
-      pub run-whole : not b ≡ false → n ≤ length marks → (between after : List ℕ)
-          → between ≡ sets marks 0 (opened e words (λ r. getD (replicate 8 true) r false))
-          → after ≡ steppedAll e words (take (p .count) (p .steps)) between → Ran Taken after
-      unfolding runChecked verdictOf marksAfter runMarks stepsOf
-      run-whole t h between after k a =
-          let j : rowCount e words ≤ length marks = omega arith in
-          rw (← f, not-false b t, le-ltb (length marks) (rowCount e words) j)
-          (refl, a ∙ ap (steppedAll e words (take (p .count) (p .steps))) (k ∙ ap (sets marks 0) everywhere))
+    pub run-whole : v ≡ Taken → (between after : List ℕ) → between ≡ openedIn e words (λ r. getD (replicate 8 true) r false) marks
+        → after ≡ steppedAll e words (take (p .count) (p .steps)) between → Ran Taken after
+    unfolding runChecked runMarks stepsOf
+    run-whole h between after k a =
+        after-taken marks (runChecked e p words marks) after 0
+        (judge-taken (marksTests e words (length marks)) v g (good (runMarks e p words marks) 0) h
+        ∙ ap (λ (l : List ℕ). good l 0) (sym (a ∙ ap (steppedAll e words (take (p .count) (p .steps))) (k ∙ ap (sets marks 0) everywhere))))
 
 -- ---- the whole run
 

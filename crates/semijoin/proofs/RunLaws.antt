@@ -38,8 +38,9 @@ use Rattle.papers.proofs.ExactPrograms.{program-complete}
 use Rattle.papers.proofs.ExactChecks.{check-exact}
 use Rattle.semijoin.specs.Offsets.{countIn, rowCount}
 use Rattle.semijoin.specs.Local.{opened}
-use Rattle.semijoin.specs.Marks.{keptRows, valuesOf, reducedBy, stepped, steppedAll}
-use Rattle.semijoin.specs.Run.{runChecked, runMarks, runOutcome}
+use Rattle.semijoin.specs.Marks.{keptRows, reducedBy}
+use Rattle.semijoin.specs.Values.{valuesOf}
+use Rattle.semijoin.specs.Run.{stepped, steppedAll, runChecked, runMarks, runOutcome}
 use Rattle.semijoin.specs.Shape.{shaped}
 use Rattle.semijoin.specs.Promise.{rowOf, keptAt, FewerRows, Needed, Covers}
 use Rattle.semijoin.proofs.OffsetLaws.{count-outside}

@@ -26,7 +26,6 @@ use Rattle.semijoin.proofs.OffsetLaws.{count-outside, row-is, words-end
 
 -- the shape as a statement
 pub record Shape (e : Envelope) (words : List ℕ) : Type 0 where
-  pub counted : relationCount e ≤ length words
   pub few : (r : ℕ) → countIn e words r ≤ 4096
   pub whole : length words ≡ firstWord e words (relationCount e)
   pub within : length words ≤ 16384
@@ -47,35 +46,27 @@ columns-least e w r h =
 module _ (e : Envelope) (words : List ℕ) where
   pub shaped-shape : shaped e words ≡ true → Shape e words
   unfolding shaped
-  shaped-shape t = go (leb (relationCount e) (length words)) _ _ _ refl refl refl refl t
-    where
-      -- the four tests, one by one
-      few : all (λ r. leb (countIn e words r) 4096) (below (relationCount e)) ≡ true → (r : ℕ) → countIn e words r ≤ 4096
-      few t r =
-          split (relationCount e) r
-          (λ h. rw (count-outside e words r h) (omega arith))
-          (λ h. leb-true _ _ (all-at (λ q. leb (countIn e words q) 4096) (below (relationCount e)) t (below-mem r (relationCount e) h)))
-
-      go : (a b c d : Bool) → leb (relationCount e) (length words) ≡ a
-          → all (λ r. leb (countIn e words r) 4096) (below (relationCount e)) ≡ b
-          → eqb (length words) (firstWord e words (relationCount e)) ≡ c → leb (length words) 16384 ≡ d
-          → (a && b && c && d) ≡ true → Shape e words
-      go a b c d ea eb ec ed t =
-          let abc : (a && b && c) ≡ true = and-left _ _ t in
-          let ab : (a && b) ≡ true = and-left _ _ abc in
-          record {
-            counted = leb-true _ _ (ea ∙ and-left _ _ ab);
-            few = few (eb ∙ and-right a _ ab);
-            whole = eqb-true _ _ (ec ∙ and-right (a && b) _ abc);
-            within = leb-true _ _ (ed ∙ and-right (a && b && c) _ t);
-          }
+  shaped-shape t =
+      record {
+        few = λ r.
+            split (relationCount e) r
+            (λ h. rw (count-outside e words r h) (omega arith))
+            (λ h. leb-true _ _ (all-at (λ q. leb (countIn e words q) 4096) (below (relationCount e)) (and-left _ _ (and-left _ _ t)) (below-mem r (relationCount e) h)));
+        whole = eqb-true _ _ (and-right (all (λ r. leb (countIn e words r) 4096) (below (relationCount e))) _ (and-left _ _ t));
+        within = leb-true _ _ (and-right (all (λ r. leb (countIn e words r) 4096) (below (relationCount e)) && eqb (length words) (firstWord e words (relationCount e))) _ t);
+      }
 
   pub shape-shaped : Shape e words → shaped e words ≡ true
   unfolding shaped
   shape-shaped s =
       let few : all (λ r. leb (countIn e words r) 4096) (below (relationCount e)) ≡ true =
       all-of _ (below (relationCount e)) λ r m. le-leb _ _ (s .few r) in
-      and-both (and-both (and-both (le-leb _ _ (s .counted)) few) (eq-eqb _ _ (s .whole))) (le-leb _ _ (s .within))
+      and-both (and-both few (eq-eqb _ _ (s .whole))) (le-leb _ _ (s .within))
+
+  -- so the counts are there
+  pub shape-counted : Shape e words → relationCount e ≤ length words
+  unfolding firstWord
+  shape-counted s = omega (arith, s .whole)
 
   module _ (s : Shape e words) where
     pub words-fit : (r : ℕ) → r < relationCount e → firstWord e words r + countIn e words r * columnsIn e r ≤ length words

@@ -22,9 +22,10 @@ use Rattle.papers.specs.declared.programs.Program.{Program}
 use Rattle.papers.proofs.TidyLaws.{tidy-selections, tidy-equalities}
 use Rattle.semijoin.specs.Offsets.{countIn, wordsBefore, rowsBefore, firstWord, rowCount, rowsAt, marksAt}
 use Rattle.semijoin.specs.Shape.{shaped}
-use Rattle.semijoin.specs.Local.{passes, openedAt, opened}
-use Rattle.semijoin.specs.Marks.{keptRows, valuesOf, reducedBy, stepped, steppedAll}
-use Rattle.semijoin.specs.Run.{runMarks}
+use Rattle.semijoin.specs.Local.{passesBy, passes, openedAt, opened}
+use Rattle.semijoin.specs.Marks.{keptRows, reducedBy}
+use Rattle.semijoin.specs.Values.{valuesOf}
+use Rattle.semijoin.specs.Run.{stepped, steppedAll, runMarks}
 
 module _ (e : Envelope) (within : Within e) where
   -- ---- offsets
@@ -69,7 +70,7 @@ module _ (e : Envelope) (within : Within e) where
       )
 
   tidy-passes : (r : ℕ) (row : Row) → passes (tidy e) r row ≡ passes e r row
-  unfolding passes
+  unfolding passes passesBy
   tidy-passes r row = rw (tidy-selections e within r, tidy-equalities e within r)
 
   pub tidy-opened : (words : List ℕ) (here : ℕ → Bool) → opened (tidy e) words here ≡ opened e words here

@@ -2,19 +2,18 @@
 -- says of words and marks: its rows, its part of the marks, the kept values of a column, and what reducing it leaves.
 use Prim.Native.Nat.{ℕ}
 use mathlib.Core.Bool.{Bool, _&&_}
-use mathlib.Core.List.{List, map}
-use lib.ListN.{take, drop}
+use mathlib.Core.List.{List, [], map}
+use lib.ListN.{getD, take, drop}
 use lib.Seq.{sets}
-use lib.Dec.{eqb}
 use Rattle.ground.specs.Tests.{pick}
-use Rattle.ground.specs.Lists.{all}
 use Rattle.envelopes.specs.Parts.{columnsIn}
 use Rattle.envelopes.specs.declared.envelope.Envelope.{Envelope}
 use Rattle.papers.specs.Meaning.{Row, Table, wordIn, rowsIn}
 use Rattle.papers.specs.declared.implied.Selected.{Selected}
 use Rattle.papers.specs.declared.implied.Equal.{Equal}
 use Rattle.semijoin.specs.Offsets.{countIn, firstWord, firstMark}
-use Rattle.semijoin.specs.Marks.{keptOf, sieved, removedOf}
+use Rattle.semijoin.specs.Marks.{isKept, keptOf, sieved, removedOf}
+use Rattle.semijoin.specs.Local.{passesBy}
 use Rattle.semijoin.specs.declared.offsets.Extent.{Extent}
 
 abbrev pub extentOf : Envelope → List ℕ → ℕ → Extent
@@ -27,6 +26,13 @@ rowsOver x words = rowsIn (x .columns) (x .rows) (drop (x .word) words)
 unfoldable pub marksOver : Extent → List ℕ → List ℕ
 marksOver x marks = take (x .rows) (drop (x .mark) marks)
 
+-- the word of a row in a column, 0 where there is none; whether a row is kept, and none is that is not there
+abbrev pub wordOver : Extent → List ℕ → ℕ → ℕ → ℕ
+wordOver x words i c = wordIn (getD (rowsOver x words) i []) c
+
+abbrev pub keptOver : Extent → List ℕ → ℕ → Bool
+keptOver x marks i = isKept (getD (marksOver x marks) i 0)
+
 unfoldable pub valuesOver : Extent → ℕ → List ℕ → List ℕ → List ℕ
 valuesOver x c words marks = map (λ (row : Row). wordIn row c) (keptOf (marksOver x marks) (rowsOver x words))
 
@@ -35,12 +41,6 @@ sievedOver x c words values marks = sets marks (x .mark) (sieved values c (marks
 
 unfoldable pub removedOver : Extent → ℕ → List ℕ → List ℕ → List ℕ → ℕ
 removedOver x c words values marks = removedOf values c (marksOver x marks) (rowsOver x words)
-
--- a row passes some selections and equalities
-unfoldable pub passesBy : List Selected → List Equal → Row → Bool
-passesBy selections equalities row =
-    all (λ (s : Selected). eqb (wordIn row (s .column)) (s .value)) selections
-    && all (λ (s : Equal). eqb (wordIn row (s .left)) (wordIn row (s .right))) equalities
 
 -- the mark of a row at opening, by whether its relation is here
 unfoldable pub openingMark : Bool → List Selected → List Equal → Row → ℕ

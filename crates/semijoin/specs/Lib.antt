@@ -2,8 +2,10 @@
 -- one-place run) have them. Offsets has where a relation's words and marks lie; nothing else knows.
 pub mod Offsets
 pub mod Shape
-pub mod Local
+pub mod Rising
 pub mod Marks
+pub mod Values
+pub mod Local
 pub mod Extents
 pub mod Run
 pub mod Promise

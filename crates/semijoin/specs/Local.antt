@@ -1,24 +1,34 @@
 -- "Implied: every selection R.A = k, every R.A = R.B, both local and always applied at the start." "Opening sets 1 where an own
--- row passes the local operations and 0 elsewhere."
+-- row passes the local operations and 0 elsewhere." "Bytes past the last row stay." "Opening: 10, .. 11."
 use Prim.Native.Nat.{ℕ}
 use mathlib.Core.Bool.{Bool, _&&_}
 use mathlib.Core.List.{List, map}
+use lib.ListN.{length}
+use lib.Seq.{sets}
 use lib.Dec.{eqb}
 use Rattle.ground.specs.Tests.{pick}
 use Rattle.ground.specs.Lists.{all, each, below}
+use Rattle.ground.specs.Outcome.{Outcome, next}
+use Rattle.ground.specs.Outcome.Outcome.{good}
+use Rattle.ground.specs.Refusing.{judged}
 use Rattle.envelopes.specs.Parts.{relationCount}
+use Rattle.envelopes.specs.Envelope.{checkEnvelope}
 use Rattle.envelopes.specs.declared.envelope.Envelope.{Envelope}
 use Rattle.papers.specs.Implied.{impliedSelections, impliedEqualities}
 use Rattle.papers.specs.Meaning.{Row, wordIn}
 use Rattle.papers.specs.declared.implied.Selected.{Selected}
 use Rattle.papers.specs.declared.implied.Equal.{Equal}
 use Rattle.semijoin.specs.Offsets.{rowsAt}
+use Rattle.semijoin.specs.Shape.{marksTests}
 
--- a row of relation r passes every implied selection and every implied equality
+-- a row passes some selections and equalities; all that are implied for its relation
+unfoldable pub passesBy : List Selected → List Equal → Row → Bool
+passesBy selections equalities row =
+    all (λ (s : Selected). eqb (wordIn row (s .column)) (s .value)) selections
+    && all (λ (s : Equal). eqb (wordIn row (s .left)) (wordIn row (s .right))) equalities
+
 unfoldable pub passes : Envelope → ℕ → Row → Bool
-passes e r row =
-    all (λ (s : Selected). eqb (wordIn row (s .column)) (s .value)) (impliedSelections e r)
-    && all (λ (s : Equal). eqb (wordIn row (s .left)) (wordIn row (s .right))) (impliedEqualities e r)
+passes e r row = passesBy (impliedSelections e r) (impliedEqualities e r) row
 
 -- the mark of each row of a relation that is here: 1 where it passes; of one that is not: 0
 unfoldable pub openedAt : Envelope → List ℕ → Bool → ℕ → List ℕ
@@ -27,3 +37,12 @@ openedAt e words here r = map (λ (row : Row). pick (here && passes e r row) 1 0
 -- the marks of all rows, by which relations are here
 unfoldable pub opened : Envelope → List ℕ → (ℕ → Bool) → List ℕ
 opened e words here = each (λ r. openedAt e words (here r) r) (below (relationCount e))
+
+-- lent marks with these in front
+abbrev pub openedIn : Envelope → List ℕ → (ℕ → Bool) → List ℕ → List ℕ
+openedIn e words here marks = sets marks 0 (opened e words here)
+
+-- the envelope is checked, then 10, 11
+unfoldable pub openOutcome : Envelope → List ℕ → (ℕ → Bool) → List ℕ → Outcome (List ℕ)
+openOutcome e words here marks =
+    next (checkEnvelope e) (λ e _. judged (marksTests e words (length marks)) (good (openedIn e words here marks) 0))

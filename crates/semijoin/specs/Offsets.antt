@@ -1,6 +1,6 @@
 -- Where things lie in the words of tables, "a row count per relation, then the rows, relation by relation, all columns",
 -- and in the marks, "one mark byte per true row of the lent tables, in table order". No other place adds up row counts.
-use Prim.Native.Nat.{ℕ, zero, suc, _+_, _*_}
+use Prim.Native.Nat.{ℕ, _+_, _*_}
 use mathlib.Core.List.{List, map}
 use lib.ListN.{getD, take, drop}
 use Rattle.ground.specs.Lists.{below, sum}

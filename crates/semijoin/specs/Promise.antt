@@ -15,7 +15,8 @@ use Rattle.papers.specs.Meaning.{Row, Combination, wordIn, meetsAll, tablesOf}
 use Rattle.papers.specs.Steps.{isPlace, legal}
 use Rattle.papers.specs.declared.steps.Step.{Step}
 use Rattle.semijoin.specs.Offsets.{countIn, rowCount, rowsAt, marksAt}
-use Rattle.semijoin.specs.Marks.{isKept, among}
+use Rattle.semijoin.specs.Rising.{among}
+use Rattle.semijoin.specs.Marks.{isKept}
 
 -- row i of a relation, a column of it, and whether marks keep it: past the last row there is none that is kept
 abbrev pub rowOf : Envelope → List ℕ → ℕ → ℕ → Row

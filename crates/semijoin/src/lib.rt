@@ -2,6 +2,8 @@
 pub mod local;
 pub mod marks;
 pub mod offsets;
-mod rows;
+pub mod rising;
+pub mod rows;
 pub mod run;
 pub mod shape;
+pub mod values;

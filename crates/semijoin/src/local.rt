@@ -1,6 +1,7 @@
 // Local operations: the rows of a relation that pass its implied selections and equalities, and the marks at opening.
 use crate::offsets::Extent;
 use envelopes::envelope::Envelope;
+use ground::Verdict;
 use papers::implied::Equal;
 use papers::implied::Equalities;
 use papers::implied::Selected;
@@ -13,11 +14,13 @@ ghost use lib.ListN.{length, getD, take};
 ghost use lib.Seq.{sets};
 ghost use lib.Dec.{eqb};
 ghost use Rattle.ground.specs.Lists.{any};
+ghost use Rattle.ground.specs.Outcome.{verdictOf};
 ghost use Rattle.envelopes.specs.Rules.{Within};
 ghost use Rattle.papers.specs.Meaning.{wordIn};
 ghost use Rattle.semijoin.specs.Offsets.{rowCount};
 ghost use Rattle.semijoin.specs.Shape.{shaped};
-ghost use Rattle.semijoin.specs.Local.{opened};
+ghost use Rattle.semijoin.specs.Local.{openedIn, openOutcome};
+ghost use Rattle.semijoin.specs.Marks.{marksAfter};
 ghost use Rattle.semijoin.specs.Extents.{rowsOver, openingMark};
 
 fn breaks_selection(tables: &[u32], extent: Extent, row: usize, selected: Selected) -> bool
@@ -121,9 +124,9 @@ fn open_rows(
 }
 
 // The marks of every row: by its local operations where its relation is here, else 0. The envelope was found good.
-pub fn open_marks(envelope: Envelope, tables: &[u32], here: [bool; 8], marks: &mut [u8])
+pub(crate) fn open_all(envelope: Envelope, tables: &[u32], here: [bool; 8], marks: &mut [u8])
     requires { ⌜ Within envelope × (shaped envelope (now tables) ≡ true) × (rowCount envelope (now tables) ≤ length (now marks)) ⌝ }
-    ensures { λ r. ⌜ now (marks .exit) ≡ sets (now (marks .entry)) 0 (opened envelope (now (tables .entry)) (λ r. getD here r false)) ⌝ }
+    ensures { λ r. ⌜ now (marks .exit) ≡ openedIn envelope (now (tables .entry)) (λ r. getD here r false) (now (marks .entry)) ⌝ }
 {
     let labels = papers::labels::labels_of(envelope);
     let end = ground::used::in_use(8, envelope.relation_count);
@@ -135,5 +138,27 @@ pub fn open_marks(envelope: Envelope, tables: &[u32], here: [bool; 8], marks: &m
         let own = here[relation as usize];
         open_rows(tables, extent, own, selections, equalities, marks);
         relation += 1;
+    }
+}
+
+// The same for any envelope, tables and marks: the envelope is checked, then 10, 11.
+pub fn open_marks(envelope: Envelope, tables: &[u32], here: [bool; 8], marks: &mut [u8]) -> Verdict
+    ensures { λ r. ⌜ (r ≡ verdictOf (openOutcome envelope (now (tables .entry)) (λ r. getD here r false) (now (marks .entry)))) × (now (marks .exit) ≡ marksAfter (now (marks .entry)) (openOutcome envelope (now (tables .entry)) (λ r. getD here r false) (now (marks .entry)))) ⌝ }
+{
+    let read = envelopes::reading::check_envelope(envelope);
+    let verdict = read.verdict;
+    match verdict {
+        Verdict::Refused { number, position } => Verdict::Refused { number, position },
+        Verdict::Taken => {
+            let checked = read.envelope;
+            let found = crate::shape::judge_marks(checked, tables, marks.len());
+            match found {
+                Verdict::Refused { number, position } => Verdict::Refused { number, position },
+                Verdict::Taken => {
+                    open_all(checked, tables, here, marks);
+                    Verdict::Taken
+                }
+            }
+        }
     }
 }

@@ -1,4 +1,5 @@
 // One row of a relation that lies in words and marks: its word in a column, its mark, and what a step does to the mark.
+// word_at and is_kept are for any extent; the others know that it lies within.
 use crate::offsets::Extent;
 ghost use mathlib.Core.Path.{_≡_};
 ghost use mathlib.Core.Bool.{Bool};
@@ -8,7 +9,7 @@ ghost use lib.ListN.{length, getD, set};
 ghost use Rattle.ground.specs.Tests.{pick};
 ghost use Rattle.papers.specs.Meaning.{wordIn};
 ghost use Rattle.semijoin.specs.Marks.{isKept};
-ghost use Rattle.semijoin.specs.Extents.{rowsOver, marksOver};
+ghost use Rattle.semijoin.specs.Extents.{rowsOver, marksOver, wordOver, keptOver};
 
 pub(crate) fn word_in(tables: &[u32], extent: Extent, row: usize, column: u8) -> u32
     requires { ⌜ (row < extent .rows) × (column < extent .columns) × (extent .word + extent .rows * extent .columns ≤ length (now tables)) ⌝ }
@@ -48,4 +49,44 @@ pub(crate) fn word_or_zero(tables: &[u32], extent: Extent, row: usize, column: u
         return 0;
     }
     word_in(tables, extent, row, column)
+}
+
+// The word of a row in a column: 0 where there is no such row or column, or the words end before it.
+pub fn word_at(tables: &[u32], extent: Extent, row: usize, column: u8) -> u32
+    ensures { λ r. ⌜ r ≡ wordOver extent (now (tables .entry)) row column ⌝ }
+{
+    let wide = column as usize;
+    if extent.rows <= row {
+        return 0;
+    }
+    if extent.columns <= wide {
+        return 0;
+    }
+    if tables.len() <= extent.word {
+        return 0;
+    }
+    let left = tables.len() - extent.word;
+    if left <= wide {
+        return 0;
+    }
+    if (left - 1 - wide) / extent.columns < row {
+        return 0;
+    }
+    tables[extent.word + row * extent.columns + wide]
+}
+
+// Whether a row is kept: not where there is no such row, or the marks end before it.
+pub fn is_kept(marks: &[u8], extent: Extent, row: usize) -> bool
+    ensures { λ r. ⌜ r ≡ keptOver extent (now (marks .entry)) row ⌝ }
+{
+    if extent.rows <= row {
+        return false;
+    }
+    if marks.len() <= extent.mark {
+        return false;
+    }
+    if marks.len() - extent.mark <= row {
+        return false;
+    }
+    marks[extent.mark + row] != 0
 }

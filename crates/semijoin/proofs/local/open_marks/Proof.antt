@@ -1,114 +1,72 @@
-use Rattle.envelopes.specs.Parts.{relationCount}
-use Prim.Native.Nat.{_<_, _-_}
 use mathlib.Core.Bool.{false}
 use lib.ListN.{getD}
-use Rattle.semijoin.proofs.SieveCodeLaws.{words-there, marks-there}
-use Rattle.semijoin.proofs.LocalCodeLaws.{OpeningAll, opening-all-start, opening-all-more, opening-all-done}
+use Rattle.semijoin.proofs.JudgedLaws.{marks-shaped, marks-room}
+use Rattle.semijoin.proofs.CallCodeLaws.{open-within, open-envelope, open-refused, open-taken}
 use borrow.Author.Needs.{needs}
-use native.Mathlib.Omega.{arith}
 use Rattle.semijoin.proofs.local.open_marks.Statement.{statement}
 use Rattle.semijoin.proofs.local.open_marks.Tie as tie
 use Rattle.semijoin.proofs.local.open_marks.Reads as reads
 use Rattle.semijoin.proofs.local.open_marks.Lts as lts
-use Rattle.ground.proofs.used.in_use.Reads as in-use-reads
-use Rattle.papers.proofs.implied.equalities_by.Reads as equalities-by-reads
-use Rattle.papers.proofs.implied.selections_by.Reads as selections-by-reads
-use Rattle.papers.proofs.labels.labels_of.Reads as labels-of-reads
-use Rattle.semijoin.proofs.local.open_rows.Reads as open-rows-reads
-use Rattle.semijoin.proofs.offsets.extent_of.Reads as extent-of-reads
+use Rattle.envelopes.proofs.reading.check_envelope.Reads as check-envelope-reads
+use Rattle.semijoin.proofs.local.open_all.Reads as open-all-reads
+use Rattle.semijoin.proofs.shape.judge_marks.Reads as judge-marks-reads
 
-abbrev Inv-loop : tie.InvT-loop
-Inv-loop envelope tables marks₀ here labels end relation₀ marks relation = OpeningAll envelope tables (λ r. getD here r false) marks₀ end relation marks
+-- src/local.rt:148:9
+check-envelope-requires : tie.Need-check-envelope-requires
+check-envelope-requires c κs = search needs
 
-abbrev μ-loop : tie.MeasureT-loop
-μ-loop envelope tables marks₀ here labels end relation₀ marks relation = end - relation
+-- src/local.rt:151:28
+enum-known-verdict : tie.Need-enum-known-verdict
+enum-known-verdict c = search needs
 
--- src/local.rt:134:9
-labels-of-requires : tie.Need-labels-of-requires Inv-loop μ-loop
-labels-of-requires c κs = search needs
+-- src/local.rt:153:17
+enum-told : tie.Need-enum-told
+enum-told c = search needs
 
--- src/local.rt:135:9
-in-use-requires : tie.Need-in-use-requires Inv-loop μ-loop
-in-use-requires c κs = search needs
+-- src/local.rt:154:17
+judge-marks-requires : tie.Need-judge-marks-requires
+judge-marks-requires c κs = search needs
 
--- src/local.rt:137:5
-loop-holds : tie.Need-loop-holds Inv-loop μ-loop
-loop-holds c = search (opening-all-start, needs)
+-- src/local.rt:156:36
+enum-known-found : tie.Need-enum-known-found
+enum-known-found c = search needs
 
--- src/local.rt:137:12
-cast-loop : tie.Need-cast-loop Inv-loop μ-loop
-cast-loop c = omega arith
+-- src/local.rt:158:53
+enum-told-2 : tie.Need-enum-told-2
+enum-told-2 c = search needs
 
--- src/local.rt:138:13
-extent-of-requires : tie.Need-extent-of-requires Inv-loop μ-loop
-extent-of-requires c κs = search needs
+-- src/local.rt:158:21
+open-all-requires : tie.Need-open-all-requires
+open-all-requires c κs = (open-within (c .before .before .before .before .before .before .before .before .before .before .args .envelope) (c .before .before .before .before .before .before .before .before .before .before .args .tables .now) (λ r. getD (c .before .before .before .before .before .before .before .before .before .before .args .here) r false) (c .before .before .before .before .before .before .before .before .before .before .args .marks .now) _ (c .before .before .before .before .before .before .before .check-envelope .ensures) (c .before .before .before .before .before .enum-told .given .1), marks-shaped _ (c .before .before .before .before .before .before .before .before .before .before .args .tables .now) _ _ (c .before .enum-told2 .given .1) (c .before .before .before .judge-marks .ensures), marks-room _ (c .before .before .before .before .before .before .before .before .before .before .args .tables .now) _ _ (c .before .enum-told2 .given .1) (c .before .before .before .judge-marks .ensures))
 
--- src/local.rt:139:13
-selections-by-requires : tie.Need-selections-by-requires Inv-loop μ-loop
-selections-by-requires c κs = search needs
+-- src/local.rt:145:1
+returns : tie.Need-returns
+returns c = open-envelope (c .before .before .before .before .before .before .args .envelope) (c .before .before .before .before .before .before .args .tables .now) (λ r. getD (c .before .before .before .before .before .before .args .here) r false) (c .before .before .before .before .before .before .args .marks .now) _ (c .before .before .before .check-envelope .ensures) _ _ (c .before .verdict .given .1)
 
--- src/local.rt:140:13
-equalities-by-requires : tie.Need-equalities-by-requires Inv-loop μ-loop
-equalities-by-requires c κs = search needs
+-- src/local.rt:145:1
+returns-2 : tie.Need-returns-2
+returns-2 c = open-refused (c .before .before .before .before .before .before .before .before .before .before .args .envelope) (c .before .before .before .before .before .before .before .before .before .before .args .tables .now) (λ r. getD (c .before .before .before .before .before .before .before .before .before .before .args .here) r false) (c .before .before .before .before .before .before .before .before .before .before .args .marks .now) _ (c .before .before .before .before .before .before .before .check-envelope .ensures) (c .before .before .before .before .before .enum-told .given .1) _ (c .before .before .before .judge-marks .ensures) _ _ (c .before .found .given .1)
 
--- src/local.rt:141:24
-cast-own : tie.Need-cast-own Inv-loop μ-loop
-cast-own c = omega arith
+-- src/local.rt:145:1
+same-length : tie.Need-same-length
+same-length c = search needs
 
--- src/local.rt:141:19
-array-read-own : tie.Need-array-read-own Inv-loop μ-loop
-array-read-own c = omega arith
-
--- src/local.rt:142:9
-open-rows-requires : tie.Need-open-rows-requires Inv-loop μ-loop
-open-rows-requires c κs =
-    let s = c .before .before .before .before .before .before .before .before .before .before in
-    let h : c .before .before .before .before .before .loop .relation < relationCount (s .args .envelope) = omega arith in
-    let x = c .before .before .before .extent-of .ensures in
-    (words-there (s .args .envelope) (s .args .tables .now) _ _ x h (s .pre .1), marks-there (s .args .envelope) (s .args .tables .now) _ _ x h _ (omega (arith, c .before .before .before .before .before .loop .inv .long)))
-
--- src/local.rt:143:9
-add-relation : tie.Need-add-relation Inv-loop μ-loop
-add-relation c = omega arith
-
--- src/local.rt:137:5
-loop-less : tie.Need-loop-less Inv-loop μ-loop
-loop-less c = omega arith
-
--- src/local.rt:137:5
-loop-again : tie.Need-loop-again Inv-loop μ-loop
-loop-again c =
-    let s = c .before .before .before .before .before .before .before .before .before .before .before .before .before in
-    opening-all-more (s .args .envelope) (s .args .tables .now) (λ r. getD (s .args .t3) r false) _ _ _ _ (c .before .before .before .before .before .before .before .before .loop .inv) (s .pre .0) _ (c .before .before .before .before .before .before .before .before .before .before .labels-of .ensures) _ (c .before .before .before .before .before .before .extent-of .ensures) _ (c .before .before .before .before .before .selections-by .ensures) _ (c .before .before .before .before .equalities-by .ensures) (c .before .before .before .before .before .before .before .loop-test .taken) _ (c .before .before .open-rows .ensures)
-
--- src/local.rt:130:1
-same-length : tie.Need-same-length Inv-loop μ-loop
-same-length c = c .before .loop .inv .long
-
--- src/local.rt:130:1
-returns : tie.Need-returns Inv-loop μ-loop
-returns c =
-    let s = c .before .before .before .before .before .before in
-    opening-all-done (s .args .envelope) (s .args .tables .now) (λ r. getD (s .args .t3) r false) _ _ _ _ (c .before .loop .inv) (c .loop-test .left) (c .before .before .in-use .ensures)
+-- src/local.rt:145:1
+returns-3 : tie.Need-returns-3
+returns-3 c = open-taken (c .before .before .before .before .before .before .before .before .before .before .before .before .before .args .envelope) (c .before .before .before .before .before .before .before .before .before .before .before .before .before .args .tables .now) (λ r. getD (c .before .before .before .before .before .before .before .before .before .before .before .before .before .args .here) r false) (c .before .before .before .before .before .before .before .before .before .before .before .before .before .args .marks .now) _ (c .before .before .before .before .before .before .before .before .before .before .check-envelope .ensures) (c .before .before .before .before .before .before .before .before .enum-told .given .1) _ (c .before .before .before .before .before .before .judge-marks .ensures) (c .before .before .before .before .enum-told2 .given .1) _ (c .before .before .open-all .ensures)
 
 pub open-marks-spec : {M : Type 1} → statement M
 open-marks-spec =
     tie.close
     (tie.spec
-    Inv-loop
-    μ-loop
-    labels-of-requires
-    in-use-requires
-    loop-holds
-    cast-loop
-    extent-of-requires
-    selections-by-requires
-    equalities-by-requires
-    cast-own
-    array-read-own
-    open-rows-requires
-    add-relation
-    loop-less
-    loop-again
+    check-envelope-requires
+    enum-known-verdict
+    enum-told
+    judge-marks-requires
+    enum-known-found
+    enum-told-2
+    open-all-requires
+    returns
+    returns-2
     same-length
-    returns)
+    returns-3)

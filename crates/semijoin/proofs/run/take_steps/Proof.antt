@@ -8,7 +8,7 @@ use Rattle.semijoin.proofs.run.take_steps.Tie as tie
 use Rattle.semijoin.proofs.run.take_steps.Reads as reads
 use Rattle.semijoin.proofs.run.take_steps.Lts as lts
 use Rattle.ground.proofs.used.in_use.Reads as in-use-reads
-use Rattle.semijoin.proofs.marks.take_step.Reads as take-step-reads
+use Rattle.semijoin.proofs.run.take_step.Reads as take-step-reads
 
 abbrev Inv-loop : tie.InvT-loop
 Inv-loop envelope n tables marks₀ steps end i₀ marks i = Taking envelope tables (take n steps) marks₀ i marks
