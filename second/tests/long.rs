@@ -1,0 +1,65 @@
+//! The long comparison with the program under test: 20,000 plans and 100,000 call outcomes when built for
+//! release, a short one otherwise. Where the programs are not built there is nothing to compare with.
+
+use second::compare::{compare, Settings};
+use second::process::run;
+
+fn main() {
+    let settings = settings();
+    if !is_built(&settings) {
+        println!(
+            "long comparison left out: {} and {} do not run",
+            settings.plan.join(" "),
+            settings.calls.join(" ")
+        );
+        return;
+    }
+    match compare(&settings) {
+        Ok(counts) => {
+            print!("{counts}");
+            assert!(
+                counts.numbers_missed().is_empty(),
+                "never refused by {:?}",
+                counts.numbers_missed()
+            );
+        }
+        Err(difference) => {
+            print!("{difference}");
+            std::process::exit(1);
+        }
+    }
+}
+
+fn settings() -> Settings {
+    let usual = Settings::default();
+    if cfg!(debug_assertions) {
+        return Settings {
+            plans: 500,
+            listings: 20,
+            outcomes: 8_000,
+            ..usual
+        };
+    }
+    Settings {
+        plans: 20_000,
+        listings: number("SECOND_LISTINGS", 20_000),
+        outcomes: 100_000,
+        scripts: 100,
+        ..usual
+    }
+}
+
+fn number(variable: &str, usual: usize) -> usize {
+    std::env::var(variable)
+        .ok()
+        .and_then(|value| value.parse().ok())
+        .unwrap_or(usual)
+}
+
+/// Both programs run, each on the empty input. A program that is there but answers wrongly is compared, and
+/// so found.
+fn is_built(settings: &Settings) -> bool {
+    let runs =
+        |command: &[String]| run(command, &settings.root, Vec::new(), settings.patience).is_ok_and(|ran| ran.succeeded);
+    runs(&settings.plan) && runs(&settings.calls)
+}
