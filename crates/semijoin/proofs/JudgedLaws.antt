@@ -2,8 +2,8 @@
 -- marks say where they pass.
 use mathlib.Core.Path.{_≡_, refl, sym, ap, _∙_}
 use mathlib.Core.Bool.{Bool, true, false, not, _||_, false≢true}
-use mathlib.Core.List.{List, [], _∷_}
-use mathlib.Core.Logic.{_↔_}
+use mathlib.Core.List.{List, [], _∷_, map, List·Memᴰ}
+use mathlib.Core.Logic.{_↔_, _⊎_, inl, inr}
 use Prim.Native.Nat.{ℕ, _≤_, _<_}
 use native.Mathlib.Omega.{arith}
 use lib.Dec.{ltb}
@@ -14,8 +14,8 @@ use Rattle.ground.specs.Outcome.Outcome.{good, bad}
 use Rattle.ground.specs.Refusing.{Test, test, judged}
 use Rattle.ground.specs.declared.Verdict.{Verdict}
 use Rattle.ground.specs.declared.Verdict.the-variants.{Taken, Refused}
-use Rattle.ground.proofs.OutcomeLaws.{never}
-use Rattle.ground.proofs.RefusingLaws.{someFail, judged-none}
+use Rattle.ground.proofs.OutcomeLaws.{never, good-bad}
+use Rattle.ground.proofs.RefusingLaws.{someFail, judged-none, judged-number}
 use Rattle.fields.specs.Refusals.{wrongShape, tooShort, notOurs}
 use Rattle.entries.specs.declared.places.Place.{Place}
 use Rattle.envelopes.specs.declared.envelope.Envelope.{Envelope}
@@ -53,6 +53,15 @@ module _ (ts : List Test) (v : Verdict) (g : v ≡ judgement ts) where
 
   pub judge-taken : {A : Type 0} (o : Outcome A) → v ≡ Taken → judged ts o ≡ o
   judge-taken o h = judged-none ts o (judge-passed h)
+
+-- where the effect is good, a refusal's number is that of a test
+pub number-listed : {A : Type 0} (ts : List Test) (v : A) (p n q : ℕ) → judged ts (good v p) ≡ bad n q
+    → List·Memᴰ n (map (λ (t : Test). t .number) ts)
+number-listed ts v p n q h = go (judged-number ts (good v p) n q h)
+  where
+    go : List·Memᴰ n (map (λ (t : Test). t .number) ts) ⊎ (good v p ≡ bad n q) → List·Memᴰ n (map (λ (t : Test). t .number) ts)
+    go (inl m) = m
+    go (inr k) = absurd (good-bad v p n q k)
 
 -- ---- tables, marks and a column that pass their tests
 

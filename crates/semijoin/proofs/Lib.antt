@@ -7,11 +7,13 @@ pub mod JudgedLaws
 pub mod RisingLaws
 pub mod MarkLaws
 pub mod ReducedLaws
-pub mod PromiseLaws
 pub mod LocalLaws
+pub mod PromiseLaws
 pub mod AnswerLaws
 pub mod TidyLaws
+pub mod CallLaws
 pub mod RunLaws
+pub mod Figures
 pub mod OffsetCodeLaws
 pub mod RisingCodeLaws
 pub mod ExtentCodeLaws

@@ -2,11 +2,11 @@
 use mathlib.Core.Path.{_≡_, refl, sym, ap, _∙_}
 use mathlib.Core.Bool.{Bool, true, false, not, _&&_, _||_}
 use mathlib.Core.List.{List, [], _∷_, map}
-use Prim.Native.Nat.{ℕ, zero, suc, _+_, _*_, _≤_, _<_, min}
+use Prim.Native.Nat.{ℕ, suc, _+_, _*_, _≤_, _<_, min}
 use native.Mathlib.Nat.{add-zero, zero-add}
 use native.Mathlib.Numerals.{add-one}
 use native.Mathlib.Omega.{arith}
-use lib.ListN.{length, getD, take, drop, set, length-set, length-map, length-append, drop-of-length-le}
+use lib.ListN.{length, getD, take, drop, set, length-set, drop-of-length-le}
 use lib.Seq.{sets, length-sets, drop-cons, take-at}
 use lib.Dec.{eqb}
 use borrow.Author.Tests.{not-true, not-false}
@@ -27,11 +27,12 @@ use Rattle.papers.specs.declared.implied.Selections.{Selections}
 use Rattle.papers.specs.declared.implied.Equal.{Equal}
 use Rattle.papers.specs.declared.implied.Equalities.{Equalities}
 use Rattle.papers.proofs.ImpliedLaws.{selections-by-labels, equalities-by-labels}
-use Rattle.semijoin.specs.Offsets.{countIn, rowsBefore, rowsAt}
+use Rattle.semijoin.specs.Offsets.{rowsAt}
 use Rattle.semijoin.specs.Local.{passesBy, passes, openedAt, opened}
 use Rattle.semijoin.specs.Extents.{extentOf, rowsOver, openingMark}
 use Rattle.semijoin.specs.declared.offsets.Extent.{Extent}
-use Rattle.semijoin.proofs.OffsetLaws.{rows-at, rowsAt-length, rows-none, rows-more}
+use Rattle.semijoin.proofs.OffsetLaws.{rows-at}
+use Rattle.semijoin.proofs.LocalLaws.{marksOf, opened-before}
 use Rattle.semijoin.proofs.ExtentCodeLaws.{rows-over}
 
 -- a column past the last reads as 0
@@ -135,32 +136,14 @@ module _ (x : Extent) (mark : Row → ℕ) (words before : List ℕ) where
 -- ---- the marks of all relations
 
 module _ (e : Envelope) (words : List ℕ) (here : ℕ → Bool) where
-  abbrev marksOf : ℕ → List ℕ
-  marksOf r = openedAt e words (here r) r
-
-  opened-at : (r : ℕ) → map (openingMark (here r) (impliedSelections e r) (impliedEqualities e r)) (rowsOver (extentOf e words r) words) ≡ marksOf r
+  opened-at : (r : ℕ) → map (openingMark (here r) (impliedSelections e r) (impliedEqualities e r)) (rowsOver (extentOf e words r) words) ≡ marksOf e words here r
   unfolding openedAt openingMark passesBy passes rowsOver rowsAt
   opened-at r = refl
-
-  marks-long : (r : ℕ) → length (marksOf r) ≡ countIn e words r
-  unfolding openedAt
-  marks-long r = length-map (rowsAt e words r) (λ (row : Row). pick (here r && passes e r row) 1 0) ∙ rowsAt-length e words r
-
-  all-long : (n : ℕ) → length (each marksOf (below n)) ≡ rowsBefore e words n
-  unfolding numbersFrom
-  all-long zero = sym (rows-none e words)
-  all-long (suc n) = rw (add-one n) at (more (all-long n))
-    where
-      more : length (each marksOf (below n)) ≡ rowsBefore e words n → length (each marksOf (below (n + 1))) ≡ rowsBefore e words (n + 1)
-      more ih =
-          ap length (each-below marksOf n)
-          ∙ length-append (each marksOf (below n)) (marksOf n)
-          ∙ rw (ih, marks-long n) (sym (rows-more e words n))
 
   pub record OpeningAll (before : List ℕ) (end i : ℕ) (marks : List ℕ) : Type 0 where
     pub within : i ≤ end
     pub long : length marks ≡ length before
-    pub same : marks ≡ sets before 0 (each marksOf (below i))
+    pub same : marks ≡ sets before 0 (each (marksOf e words here) (below i))
 
   module _ (before : List ℕ) (end : ℕ) where
     pub opening-all-start : OpeningAll before end 0 before
@@ -172,7 +155,7 @@ module _ (e : Envelope) (words : List ℕ) (here : ℕ → Bool) where
       unfolding opened
       opening-all-done h k =
           let s : i ≡ relationCount e = omega (arith, g .within) in
-          g .same ∙ ap (λ (n : ℕ). sets before 0 (each marksOf (below n))) s
+          g .same ∙ ap (λ (n : ℕ). sets before 0 (each (marksOf e words here) (below n))) s
 
       module _ (w : Within e) (l : Labels) (f : l ≡ record { of = labelsOf e }) (x : Extent) (k : x ≡ extentOf e words i)
           (s : Selections) (u : s ≡ shownSelections (selectionsBy (byLabels (l .of) e) e i))
@@ -195,7 +178,7 @@ module _ (e : Envelope) (words : List ℕ) (here : ℕ → Bool) where
             ∙ ap (λ (m : Labels). equalitiesBy (byLabels (m .of) e) e i) f
             ∙ equalities-by-labels e w i
 
-        own-marks : map (openingMark (here i) (take (s .count) (s .all)) (take (q .count) (q .all))) (rowsOver x words) ≡ marksOf i
+        own-marks : map (openingMark (here i) (take (s .count) (s .all)) (take (q .count) (q .all))) (rowsOver x words) ≡ marksOf e words here i
         own-marks =
             ap (λ (a : List Selected). map (openingMark (here i) a (take (q .count) (q .all))) (rowsOver x words)) selections-are
             ∙ ap (λ (b : List Equal). map (openingMark (here i) (impliedSelections e i) b) (rowsOver x words)) equalities-are
@@ -212,10 +195,10 @@ module _ (e : Envelope) (words : List ℕ) (here : ℕ → Bool) where
               same =
                   a
                   ∙ ap (sets marks (x .mark)) own-marks
-                  ∙ ap (λ (b : List ℕ). sets b (x .mark) (marksOf i)) (g .same)
-                  ∙ ap (λ (j : ℕ). sets (sets before 0 (each marksOf (below i))) j (marksOf i)) place
-                  ∙ sym (ap (sets before 0) (each-below marksOf i) ∙ sets-append before 0 (each marksOf (below i)) (marksOf i));
+                  ∙ ap (λ (b : List ℕ). sets b (x .mark) (marksOf e words here i)) (g .same)
+                  ∙ ap (λ (j : ℕ). sets (sets before 0 (each (marksOf e words here) (below i))) j (marksOf e words here i)) place
+                  ∙ sym (ap (sets before 0) (each-below (marksOf e words here) i) ∙ sets-append before 0 (each (marksOf e words here) (below i)) (marksOf e words here i));
             }
           where
-            place : x .mark ≡ 0 + length (each marksOf (below i))
-            place = ap (λ (y : Extent). y .mark) k ∙ sym (all-long i) ∙ sym (zero-add (length (each marksOf (below i))))
+            place : x .mark ≡ 0 + length (each (marksOf e words here) (below i))
+            place = ap (λ (y : Extent). y .mark) k ∙ sym (opened-before e words here i) ∙ sym (zero-add (length (each (marksOf e words here) (below i))))

@@ -54,18 +54,18 @@ below-split n r h =
     ap below (sym whole) ∙ numbers-append 0 r (n - r) ∙ rw (zero-add r, left-suc n r h)
 
 module _ (e : Envelope) (words : List ℕ) where
-  opened-at-length : (here : Bool) (r : ℕ) → length (openedAt e words here r) ≡ countIn e words r
+  pub opened-at-length : (here : Bool) (r : ℕ) → length (openedAt e words here r) ≡ countIn e words r
   unfolding openedAt
   opened-at-length here r = length-map (rowsAt e words r) (λ (row : Row). pick (here && passes e r row) 1 0) ∙ rowsAt-length e words r
 
   module _ (here : ℕ → Bool) where
-    abbrev marksOf : ℕ → List ℕ
+    abbrev pub marksOf : ℕ → List ℕ
     marksOf r = openedAt e words (here r) r
 
-    before : (n : ℕ) → length (each marksOf (below n)) ≡ rowsBefore e words n
+    pub opened-before : (n : ℕ) → length (each marksOf (below n)) ≡ rowsBefore e words n
     unfolding numbersFrom
-    before zero = sym (rows-none e words)
-    before (suc n) = rw (add-one n) at more (before n)
+    opened-before zero = sym (rows-none e words)
+    opened-before (suc n) = rw (add-one n) at more (opened-before n)
       where
         more : length (each marksOf (below n)) ≡ rowsBefore e words n → length (each marksOf (below (n + 1))) ≡ rowsBefore e words (n + 1)
         more ih =
@@ -88,7 +88,7 @@ module _ (e : Envelope) (words : List ℕ) where
 
     pub opened-length : length (opened e words here) ≡ rowCount e words
     unfolding opened
-    opened-length = before (relationCount e)
+    opened-length = opened-before (relationCount e)
 
     module _ (marks : List ℕ) (fits : rowCount e words ≤ length marks) where
       room : 0 + length (opened e words here) ≤ length marks
@@ -99,7 +99,7 @@ module _ (e : Envelope) (words : List ℕ) where
       opened-own r h =
           ap (λ (l : List ℕ). take (countIn e words r) (drop (firstMark e words r) l))
           (sets-eq (opened e words here) marks 0 room ∙ opened-parts r h rest)
-          ∙ ap (take (countIn e words r)) (drop-at (each marksOf (below r)) (marksOf r ++ (later r ++ rest)) (firstMark e words r) (before r))
+          ∙ ap (take (countIn e words r)) (drop-at (each marksOf (below r)) (marksOf r ++ (later r ++ rest)) (firstMark e words r) (opened-before r))
           ∙ take-at (marksOf r) (later r ++ rest) (countIn e words r) (opened-at-length (here r) r)
         where
           rest : List ℕ
@@ -118,10 +118,14 @@ module _ (e : Envelope) (words : List ℕ) where
           ap (λ (ms : List ℕ). keptOf ms (rowsAt e words r)) (opened-own r h)
           ∙ kept-test (λ (row : Row). here r && passes e r row) (rowsAt e words r)
 
+      -- 1 where a row is here and passes, else 0; so it is kept exactly there
+      pub opened-byte : (r i : ℕ) → r < relationCount e → i < countIn e words r
+          → getD (marksAt e words r (sets marks 0 (opened e words here))) i 0 ≡ pick (here r && passes e r (rowOf e words r i)) 1 0
+      unfolding openedAt
+      opened-byte r i h k =
+          ap (λ (ms : List ℕ). getD ms i 0) (opened-own r h)
+          ∙ getD-map (λ (row : Row). pick (here r && passes e r row) 1 0) (rowsAt e words r) i [] 0 (rw (rowsAt-length e words r) k)
+
       pub opened-kept : (r i : ℕ) → r < relationCount e → i < countIn e words r
           → keptAt e words (sets marks 0 (opened e words here)) r i ≡ (here r && passes e r (rowOf e words r i))
-      unfolding openedAt
-      opened-kept r i h k =
-          ap (λ (ms : List ℕ). isKept (getD ms i 0)) (opened-own r h)
-          ∙ ap isKept (getD-map (λ (row : Row). pick (here r && passes e r row) 1 0) (rowsAt e words r) i [] 0 (rw (rowsAt-length e words r) k))
-          ∙ kept-bit (here r && passes e r (rowOf e words r i))
+      opened-kept r i h k = ap isKept (opened-byte r i h k) ∙ kept-bit (here r && passes e r (rowOf e words r i))

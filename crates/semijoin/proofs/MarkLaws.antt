@@ -10,7 +10,7 @@ use native.Mathlib.Omega.{arith}
 use lib.ListN.{length, getD, take}
 use lib.Seq.{take-suc, length-take-le}
 use Rattle.ground.specs.Tests.{pick}
-use Rattle.ground.specs.Lists.{consIf, filter}
+use Rattle.ground.specs.Lists.{consIf, filter, numbersFrom}
 use Rattle.papers.specs.Meaning.{Row, Table, wordIn}
 use Rattle.semijoin.specs.Rising.{among}
 use Rattle.semijoin.specs.Marks.{isKept, keptOf, sieved, removedOf}
@@ -62,6 +62,32 @@ kept-length (m ∷ ms) (row ∷ t) = go (isKept m) (kept-length ms t)
     go : (b : Bool) → length (keptOf ms t) ≤ length t → length (consIf b row (keptOf ms t)) ≤ suc (length t)
     go true h = suc-le-suc h
     go false h = omega arith
+
+-- the kept rows by their numbers, in order
+pub kept-numbers : (ms : List ℕ) (t : Table) (k : ℕ) (row : ℕ → Row) (kept : ℕ → Bool) → ((i : ℕ) → row (k + i) ≡ getD t i [])
+    → ((i : ℕ) → kept (k + i) ≡ isKept (getD ms i 0)) → keptOf ms t ≡ map row (filter kept (numbersFrom k (length t)))
+unfolding keptOf numbersFrom
+kept-numbers [] [] k row kept f g = refl
+kept-numbers (m ∷ ms) [] k row kept f g = refl
+kept-numbers [] (x ∷ t) k row kept f g =
+    let none : kept k ≡ false = ap kept (sym (add-zero k)) ∙ g 0 in
+    rw none
+    (kept-numbers [] t (k + 1) row kept
+    (λ i. let s : k + 1 + i ≡ k + suc i = omega arith in ap row s ∙ f (suc i))
+    (λ i. let s : k + 1 + i ≡ k + suc i = omega arith in ap kept s ∙ g (suc i)))
+kept-numbers (m ∷ ms) (x ∷ t) k row kept f g =
+    let here : kept k ≡ isKept m = ap kept (sym (add-zero k)) ∙ g 0 in
+    let first : row k ≡ x = ap row (sym (add-zero k)) ∙ f 0 in
+    rw here
+    (go (isKept m) first
+    (kept-numbers ms t (k + 1) row kept
+    (λ i. let s : k + 1 + i ≡ k + suc i = omega arith in ap row s ∙ f (suc i))
+    (λ i. let s : k + 1 + i ≡ k + suc i = omega arith in ap kept s ∙ g (suc i))))
+  where
+    go : (b : Bool) → row k ≡ x → keptOf ms t ≡ map row (filter kept (numbersFrom (k + 1) (length t)))
+        → consIf b x (keptOf ms t) ≡ map row (consIf b k (filter kept (numbersFrom (k + 1) (length t))))
+    go true e ih = rw (e, ih)
+    go false e ih = ih
 
 -- marks by a test keep the rows that pass it
 pub kept-test : (p : Row → Bool) (t : Table) → keptOf (map (λ (row : Row). pick (p row) 1 0) t) t ≡ filter p t

@@ -3,12 +3,15 @@ use mathlib.Core.Path.{_≡_, refl, sym, ap, _∙_}
 use mathlib.Core.Bool.{Bool, true, false, _&&_, false≢true}
 use mathlib.Core.List.{List, [], map, List·Memᴰ, Memᴰ·cast}
 use Prim.Native.Nat.{ℕ, _≤_, _<_}
+use native.Mathlib.Nat.{zero-add}
 use native.Mathlib.Decide.{ℕ-discrete}
 use native.Mathlib.Omega.{arith}
 use lib.ListN.{length, getD, drop, length-map}
+use lib.Seq.{length-sets}
 use lib.Dec.{eqb}
 use borrow.Author.Tests.{eqb-true, eq-eqb, ltb-true}
 use Rattle.ground.specs.Tests.{pick}
+use Rattle.ground.specs.Lists.{filter, below}
 use Rattle.ground.specs.Rising.{Rises}
 use Rattle.ground.proofs.CountLaws.{split}
 use Rattle.ground.proofs.TestLaws.{and-left, and-right, and-both}
@@ -28,10 +31,12 @@ use Rattle.semijoin.specs.Offsets.{countIn, firstMark, rowsAt, marksAt}
 use Rattle.semijoin.specs.Rising.{among}
 use Rattle.semijoin.specs.Marks.{isKept, keptRows, sieved, reducedBy}
 use Rattle.semijoin.specs.Values.{valuesOf, risingValues}
+use Rattle.semijoin.specs.Local.{opened, openedIn}
 use Rattle.semijoin.specs.Promise.{rowOf, wordOf, keptAt, SameRows, FewerRows, FewerValues, Needed, Covers, Holds, Promise}
-use Rattle.semijoin.proofs.OffsetLaws.{rowsAt-length, table-at, tables-length}
-use Rattle.semijoin.proofs.MarkLaws.{kept-mem, kept-from, sieved-at, sieved-past, kept-length}
-use Rattle.semijoin.proofs.ReducedLaws.{reduced-length, reduced-own, reduced-other, reduced-past, reduced-alike}
+use Rattle.semijoin.proofs.OffsetLaws.{count-outside, rowsAt-length, table-at, tables-length}
+use Rattle.semijoin.proofs.MarkLaws.{kept-mem, kept-from, kept-numbers, sieved-at, sieved-past, kept-length}
+use Rattle.semijoin.proofs.LocalLaws.{needed-passes, opened-byte, opened-kept, opened-past}
+use Rattle.semijoin.proofs.ReducedLaws.{reduced-length, reduced-own, reduced-byte, reduced-other, reduced-past, reduced-alike}
 
 kept-both : (b : Bool) (m : ℕ) → isKept (pick b m 0) ≡ (isKept m && b)
 kept-both true m = go (isKept m)
@@ -176,16 +181,36 @@ module _ (e : Envelope) where
       let k : i < countIn e words (b .relation) = omega (arith, ap length same, rowsAt-length e words (b .relation)) in
       values-of words marks b (wordIn row (b .column)) i (covers i k (rw own n)) (ap (λ (row : Row). wordIn row (b .column)) own)
 
-  pub promise : Promise e (valuesOf e) (risingValues e) (reducedBy e)
+  numbered-rows : (words marks : List ℕ) (r : ℕ)
+      → keptRows e words marks r ≡ map (rowOf e words r) (filter (keptAt e words marks r) (below (countIn e words r)))
+  unfolding keptRows
+  numbered-rows words marks r =
+      kept-numbers (marksAt e words r marks) (rowsAt e words r) 0 (rowOf e words r) (keptAt e words marks r)
+      (λ i. ap (rowOf e words r) (zero-add i)) (λ i. ap (keptAt e words marks r) (zero-add i))
+      ∙ ap (λ (n : ℕ). map (rowOf e words r) (filter (keptAt e words marks r) (below n))) (rowsAt-length e words r)
+
+  -- ---- opening
+
+  -- a relation that has a row is one of the envelope
+  relation-inside : (words : List ℕ) (r i : ℕ) → i < countIn e words r → r < relationCount e
+  relation-inside words r i h =
+      split (relationCount e) r
+      (λ k. let none : countIn e words r ≡ 0 = count-outside e words r k in absurd (omega arith))
+      (λ k. k)
+
+  pub promise : Promise e (valuesOf e) (risingValues e) (reducedBy e) (openedIn e)
   promise =
       record {
+        kept-are = numbered-rows;
         values-are = λ words marks b v. (values-from words marks b v, λ (i, k, w). values-of words marks b v i k w);
+        same-values = rising-same;
         rises = λ words marks b. rises words marks b;
         no-more = rising-rows;
         either-list = λ words marks b others those a.
             reduced-alike e others (risingValues e words marks b) (valuesOf e words marks b) a those (rising-same words marks b);
         exactly = exact;
         adds-none = none-added;
+        stores = λ words values marks a i h. reduced-byte e words values a marks i h;
         others-stay = λ words values marks a r n. reduced-other e words values a marks r n;
         past-stay = λ words values marks a. reduced-past e words values a marks;
         as-many = λ words values marks a. reduced-length e words values a marks;
@@ -193,4 +218,9 @@ module _ (e : Envelope) where
         fewer-values = values-fewer;
         needed-stay = stay-needed;
         needed-values = values-needed;
+        opens-bytes = λ words marks here fits r i h. opened-byte e words here marks fits r i (relation-inside words r i h) h;
+        opens = λ words marks here fits r i h. opened-kept e words here marks fits r i (relation-inside words r i h) h;
+        opens-past = λ words marks here fits. opened-past e words here marks fits;
+        opens-as-many = λ words marks here. length-sets marks 0 (opened e words here);
+        needed-passes = λ whole r row n. needed-passes e whole r row n;
       }

@@ -19,7 +19,6 @@ use Rattle.ground.proofs.NumbersLaws.{below-from}
 use Rattle.envelopes.specs.Envelope.{checkEnvelope, shownEnvelope}
 use Rattle.envelopes.specs.Parts.{relationCount, columnsIn}
 use Rattle.envelopes.specs.Rules.{Within}
-use Rattle.entries.specs.declared.places.Place.{Place}
 use Rattle.envelopes.specs.declared.envelope.Envelope.{Envelope}
 use Rattle.envelopes.specs.declared.reading.EnvelopeRead.{EnvelopeRead}
 use Rattle.envelopes.proofs.ReadingLaws.{read-taken, read-refused}

@@ -1,24 +1,22 @@
 -- The one-place run: local operations and then legal steps keep every row that the answer needs, so the answer on the kept
 -- rows is the answer, in its order. What a legal step does here is known by the promise alone.
 use mathlib.Core.Path.{_≡_, refl, sym, ap, _∙_}
-use mathlib.Core.Bool.{Bool, true, false, _||_, not, false≢true}
+use mathlib.Core.Bool.{true}
 use mathlib.Core.Logic.{_↔_}
-use mathlib.Core.List.{List, [], _∷_, map}
+use mathlib.Core.List.{List, [], _∷_}
 use Prim.Native.Nat.{ℕ, _≤_, _<_}
 use native.Mathlib.Decide.{ℕ-discrete}
 use native.Mathlib.Omega.{arith}
 use lib.ListN.{length, drop}
 use lib.Seq.{sets, length-sets}
-use lib.Dec.{ltb}
-use borrow.Author.Tests.{ltb-false, le-ltb}
-use Rattle.ground.specs.Lists.{Every, below}
+use borrow.Author.Tests.{le-ltb}
+use Rattle.ground.specs.Lists.{Every}
 use Rattle.ground.specs.Outcome.{Outcome, next}
 use Rattle.ground.specs.Outcome.Outcome.{good}
-use Rattle.ground.specs.Refusing.{Test, test, judged}
+use Rattle.ground.specs.Refusing.{judged}
 use Rattle.ground.proofs.CountLaws.{split}
 use Rattle.ground.proofs.OutcomeLaws.{next-good}
 use Rattle.ground.proofs.RefusingLaws.{judged-good}
-use Rattle.fields.specs.Refusals.{wrongShape, tooShort}
 use Rattle.envelopes.specs.Envelope.{checkEnvelope}
 use Rattle.envelopes.specs.Fits.{Fits}
 use Rattle.envelopes.specs.Rules.{Within, tidy}
@@ -26,7 +24,7 @@ use Rattle.envelopes.proofs.TidyLaws.{tidy-within}
 use Rattle.envelopes.proofs.ExactEnvelope.{check-complete}
 use Rattle.envelopes.specs.Parts.{relationCount, clausesOf, targetsOf}
 use Rattle.envelopes.specs.declared.envelope.Envelope.{Envelope}
-use Rattle.papers.specs.Meaning.{Table, answerOn, answerRows}
+use Rattle.papers.specs.Meaning.{answerOn, answerRows}
 use Rattle.papers.specs.Steps.{legal}
 use Rattle.papers.specs.Programs.{stepsOf, programAgainst, readProgram, programBytes, checkProgram, Acceptable, tidyProgram}
 use Rattle.papers.specs.Fits.{ProgramFits}
@@ -38,20 +36,17 @@ use Rattle.papers.proofs.ExactPrograms.{program-complete}
 use Rattle.papers.proofs.ExactChecks.{check-exact}
 use Rattle.semijoin.specs.Offsets.{countIn, rowCount}
 use Rattle.semijoin.specs.Local.{opened}
-use Rattle.semijoin.specs.Marks.{keptRows, reducedBy}
+use Rattle.semijoin.specs.Marks.{keptRows, keptTables, reducedBy}
 use Rattle.semijoin.specs.Values.{valuesOf}
 use Rattle.semijoin.specs.Run.{stepped, steppedAll, runChecked, runMarks, runOutcome}
-use Rattle.semijoin.specs.Shape.{shaped}
+use Rattle.semijoin.specs.Shape.{shaped, marksTests}
 use Rattle.semijoin.specs.Promise.{rowOf, keptAt, FewerRows, Needed, Covers}
 use Rattle.semijoin.proofs.OffsetLaws.{count-outside}
+use Rattle.semijoin.proofs.JudgedLaws.{marks-pass}
 use Rattle.semijoin.proofs.PromiseLaws.{promise}
 use Rattle.semijoin.proofs.LocalLaws.{needed-passes, opened-kept, opened-past}
 use Rattle.semijoin.proofs.TidyLaws.{tidy-shaped, tidy-row-count, tidy-run, tidy-program-run}
 use Rattle.semijoin.proofs.AnswerLaws.{delivered}
-
--- the kept rows of every relation
-abbrev pub keptTables : Envelope → List ℕ → List ℕ → List Table
-keptTables e words marks = map (keptRows e words marks) (below (relationCount e))
 
 module _ (e : Envelope) (words : List ℕ) where
   -- marks keep every row that the answer needs
@@ -157,17 +152,9 @@ pub record Runs (e : Envelope) (p : Program) (words marks : List ℕ) : Type 0 w
   pub shape : shaped e words ≡ true
   pub room : rowCount e words ≤ length marks
 
-both-pass : (a b : Bool) → (not a || (b || false)) ≡ false → (a ≡ true) × (b ≡ false)
-both-pass true true h = absurd (false≢true (sym h))
-both-pass true false h = (refl, refl)
-both-pass false b h = absurd (false≢true (sym h))
-
 module _ (e : Envelope) (p : Program) (words marks : List ℕ) where
-  abbrev pub runTests : List Test
-  runTests = test (not (shaped e words)) wrongShape 0 ∷ test (ltb (length marks) (rowCount e words)) tooShort 0 ∷ []
-
   -- papers that are taken may be looked at as they are
-  pub run-outcome : Within e → Acceptable e p → runOutcome e p words marks ≡ judged runTests (good (runMarks e p words marks) 0)
+  pub run-outcome : Within e → Acceptable e p → runOutcome e p words marks ≡ judged (marksTests e words (length marks)) (good (runMarks e p words marks) 0)
   unfolding runOutcome runChecked
   run-outcome within acceptable =
       rw (
@@ -196,9 +183,9 @@ module _ (e : Envelope) (p : Program) (words marks : List ℕ) where
       sound : runOutcome e p words marks ≡ good after q → Runs e p words marks × (after ≡ runMarks e p words marks) × (q ≡ 0)
       sound h =
           let (within, acceptable) = run-papers fits small after q h in
-          let (none, same) = judged-good runTests (good (runMarks e p words marks) 0) after q .0 (sym (run-outcome within acceptable) ∙ h) in
-          let (shape, room) = both-pass (shaped e words) (ltb (length marks) (rowCount e words)) none in
-          (record { within = within; acceptable = acceptable; shape = shape; room = ltb-false _ _ room }, cc, cc)
+          let (none, same) = judged-good (marksTests e words (length marks)) (good (runMarks e p words marks) 0) after q .0 (sym (run-outcome within acceptable) ∙ h) in
+          let (shape, room) = marks-pass e words (length marks) .0 none in
+          (record { within = within; acceptable = acceptable; shape = shape; room = room }, cc, cc)
 
       complete : Runs e p words marks × (after ≡ runMarks e p words marks) × (q ≡ 0) → runOutcome e p words marks ≡ good after q
       complete (runs, is, end) =

@@ -1,6 +1,6 @@
 -- Tables of the envelope's shape: every word and every mark that the offsets speak of is there, and how many there can be.
-use mathlib.Core.Path.{_≡_, refl, ap, _∙_}
-use mathlib.Core.Bool.{Bool, true, _&&_}
+use mathlib.Core.Path.{_≡_, ap, _∙_}
+use mathlib.Core.Bool.{true, _&&_}
 use mathlib.Core.List.{List, []}
 use Prim.Native.Nat.{ℕ, suc, _+_, _*_, _≤_, _<_}
 use native.Mathlib.Nat.{min-le-left, min-le-right, mul-le-mul-right, le-mul-of-pos-right, suc-mul}

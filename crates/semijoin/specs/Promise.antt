@@ -1,12 +1,14 @@
--- "The station end knows the semi-join only by what the semi-join promises." This is the promise: what holds of a column's
--- values, of the same values rising, and of the marks after a step by some values. The floors above go by it alone.
+-- "The station end knows the semi-join only by what the semi-join promises." This is the promise: what holds of the kept rows,
+-- of a column's values, of the same values rising, of the marks after a step by some values, and of the marks at opening. The
+-- floors above go by it alone.
 use Prim.Native.Nat.{ℕ, _≤_, _<_}
 use mathlib.Core.Path.{_≡_}
 use mathlib.Core.Bool.{Bool, true, _&&_}
-use mathlib.Core.List.{List, [], List·Memᴰ}
+use mathlib.Core.List.{List, [], map, List·Memᴰ}
 use mathlib.Core.Logic.{_↔_}
 use lib.ListN.{length, getD, drop}
-use Rattle.ground.specs.Lists.{combinations}
+use Rattle.ground.specs.Tests.{pick}
+use Rattle.ground.specs.Lists.{combinations, filter, below}
 use Rattle.ground.specs.Rising.{Rises}
 use Rattle.envelopes.specs.Parts.{clausesOf}
 use Rattle.entries.specs.declared.places.Place.{Place}
@@ -16,7 +18,8 @@ use Rattle.papers.specs.Steps.{isPlace, legal}
 use Rattle.papers.specs.declared.steps.Step.{Step}
 use Rattle.semijoin.specs.Offsets.{countIn, rowCount, rowsAt, marksAt}
 use Rattle.semijoin.specs.Rising.{among}
-use Rattle.semijoin.specs.Marks.{isKept}
+use Rattle.semijoin.specs.Marks.{isKept, keptRows}
+use Rattle.semijoin.specs.Local.{passes}
 
 -- row i of a relation, a column of it, and whether marks keep it: past the last row there is none that is kept
 abbrev pub rowOf : Envelope → List ℕ → ℕ → ℕ → Row
@@ -51,13 +54,19 @@ Covers e whole words marks r = (i : ℕ) → i < countIn e words r → Needed e 
 abbrev pub Holds : Envelope → List ℕ → List ℕ → Place → Type 0
 Holds e whole values b = (row : Row) → Needed e whole (b .relation) row → among values (wordIn row (b .column)) ≡ true
 
--- values and risen: of tables, marks and a column. reduced: by tables, values and a column, the marks
+-- values and risen: of tables, marks and a column. reduced: by tables, values and a column, the marks. opened: by tables and
+-- which relations are here, the marks
 pub record Promise (e : Envelope) (values risen : List ℕ → List ℕ → Place → List ℕ)
-    (reduced : List ℕ → List ℕ → Place → List ℕ → List ℕ) : Type 0 where
+    (reduced : List ℕ → List ℕ → Place → List ℕ → List ℕ) (opened : List ℕ → (ℕ → Bool) → List ℕ → List ℕ) : Type 0 where
+  -- the kept rows of a relation are those of its rows that are kept, in table order
+  pub kept-are : (words marks : List ℕ) (r : ℕ)
+      → keptRows e words marks r ≡ map (rowOf e words r) (filter (keptAt e words marks r) (below (countIn e words r)))
   -- a column's values are those of its kept rows
   pub values-are : (words marks : List ℕ) (b : Place) (v : ℕ)
       → (among (values words marks b) v ≡ true) ↔ ((i : ℕ) × (keptAt e words marks (b .relation) i ≡ true) × (wordOf e words b i ≡ v))
-  -- the list of distinct values rises, is no longer than there are rows, and to reduce by it is to reduce by the column itself
+  -- the list of distinct values has the same values, rises, is no longer than there are rows, and to reduce by it is to reduce
+  -- by the column itself
+  pub same-values : (words marks : List ℕ) (b : Place) (v : ℕ) → among (risen words marks b) v ≡ among (values words marks b) v
   pub rises : (words marks : List ℕ) (b : Place) → Rises 0 (risen words marks b)
   pub no-more : (words marks : List ℕ) (b : Place) → length (risen words marks b) ≤ countIn e words (b .relation)
   pub either-list : (words marks : List ℕ) (b : Place) (others those : List ℕ) (a : Place)
@@ -67,6 +76,10 @@ pub record Promise (e : Envelope) (values risen : List ℕ → List ℕ → Plac
       → keptAt e words (reduced words values a marks) (a .relation) i
       ≡ (keptAt e words marks (a .relation) i && among values (wordOf e words a i))
   pub adds-none : (words values marks : List ℕ) (a : Place) (r : ℕ) → FewerRows e r words (reduced words values a marks) words marks
+  -- a row removed has 0, every other byte is as it was
+  pub stores : (words values marks : List ℕ) (a : Place) (i : ℕ) → i < countIn e words (a .relation)
+      → getD (marksAt e words (a .relation) (reduced words values a marks)) i 0
+      ≡ pick (among values (wordOf e words a i)) (getD (marksAt e words (a .relation) marks) i 0) 0
   -- other relations' marks stay, and so do bytes past the last row; there are as many as before
   pub others-stay : (words values marks : List ℕ) (a : Place) (r : ℕ) → (r ≡ a .relation → ⊥)
       → marksAt e words r (reduced words values a marks) ≡ marksAt e words r marks
@@ -85,3 +98,13 @@ pub record Promise (e : Envelope) (values risen : List ℕ → List ℕ → Plac
       → keptAt e words (reduced words values (s .left) marks) (s .left .relation) i ≡ true
   pub needed-values : (whole words marks : List ℕ) (b : Place) → isPlace e b ≡ true → SameRows e (b .relation) words whole
       → Covers e whole words marks (b .relation) → Holds e whole (values words marks b) b
+  -- opening sets 1 where a row is here and passes the local operations, else 0; bytes past the last row stay
+  pub opens-bytes : (words marks : List ℕ) (here : ℕ → Bool) → rowCount e words ≤ length marks → (r i : ℕ) → i < countIn e words r
+      → getD (marksAt e words r (opened words here marks)) i 0 ≡ pick (here r && passes e r (rowOf e words r i)) 1 0
+  pub opens : (words marks : List ℕ) (here : ℕ → Bool) → rowCount e words ≤ length marks → (r i : ℕ) → i < countIn e words r
+      → keptAt e words (opened words here marks) r i ≡ (here r && passes e r (rowOf e words r i))
+  pub opens-past : (words marks : List ℕ) (here : ℕ → Bool) → rowCount e words ≤ length marks
+      → drop (rowCount e words) (opened words here marks) ≡ drop (rowCount e words) marks
+  pub opens-as-many : (words marks : List ℕ) (here : ℕ → Bool) → length (opened words here marks) ≡ length marks
+  -- a needed row passes
+  pub needed-passes : (whole : List ℕ) (r : ℕ) (row : Row) → Needed e whole r row → passes e r row ≡ true

@@ -2,7 +2,6 @@
 // word_at and is_kept are for any extent; the others know that it lies within.
 use crate::offsets::Extent;
 ghost use mathlib.Core.Path.{_≡_};
-ghost use mathlib.Core.Bool.{Bool};
 ghost use mathlib.Core.List.{[]};
 ghost use Prim.Native.Nat.{_+_, _*_, _<_, _≤_};
 ghost use lib.ListN.{length, getD, set};
@@ -88,5 +87,6 @@ pub fn is_kept(marks: &[u8], extent: Extent, row: usize) -> bool
     if marks.len() - extent.mark <= row {
         return false;
     }
-    marks[extent.mark + row] != 0
+    let mark = marks[extent.mark + row];
+    mark != 0
 }

@@ -23,12 +23,12 @@ returns-3 : tie.Need-returns-3
 returns-3 c = mark-past (c .before .before .before .before .before .before .args .extent) (c .before .before .before .before .before .before .args .marks .now) (c .before .before .before .before .before .before .args .row) (c .before .before .before .before .if1 .left) (omega arith)
 
 -- src/rows.rt:91:11
-add-result : tie.Need-add-result
-add-result c = search needs
+add-mark : tie.Need-add-mark
+add-mark c = search needs
 
 -- src/rows.rt:91:5
-shared-slice-read-result : tie.Need-shared-slice-read-result
-shared-slice-read-result c = search needs
+shared-slice-read-mark : tie.Need-shared-slice-read-mark
+shared-slice-read-mark c = search needs
 
 -- src/rows.rt:79:1
 returns-4 : tie.Need-returns-4
@@ -37,4 +37,4 @@ returns-4 c = search (mark-is, needs)
 pub is-kept-spec : {M : Type 1} → statement M
 is-kept-spec =
     tie.close
-    (tie.spec returns returns-2 sub-if3 returns-3 add-result shared-slice-read-result returns-4)
+    (tie.spec returns returns-2 sub-if3 returns-3 add-mark shared-slice-read-mark returns-4)

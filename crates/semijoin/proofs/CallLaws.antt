@@ -1,0 +1,250 @@
+-- What the calls on tables and marks give, in the promise's terms: each refusal where it is due, and the effect where none
+-- is. The floors above go by these and unfold nothing.
+use mathlib.Core.Path.{_≡_, refl, ap, _∙_}
+use mathlib.Core.Bool.{Bool, true, false, not, _&&_}
+use mathlib.Core.Logic.{_↔_}
+use mathlib.Core.List.{List, [], _∷_, _++_, List·Memᴰ}
+use Prim.Native.Nat.{ℕ, _+_, _≤_, _<_}
+use lib.ListN.{length}
+use lib.Seq.{sets}
+use lib.Dec.{leb}
+use borrow.Author.Tests.{leb-true, le-leb, lt-ltb, le-ltb}
+use Rattle.ground.specs.Rising.{Rises}
+use Rattle.ground.specs.Outcome.{Outcome}
+use Rattle.ground.specs.Outcome.Outcome.{good, bad}
+use Rattle.ground.specs.Refusing.{Test, test, judged}
+use Rattle.ground.proofs.TestLaws.{and-left, and-right, and-both}
+use Rattle.fields.specs.Refusals.{wrongShape, tooShort, notOurs, notSound}
+use Rattle.envelopes.specs.Envelope.{checkEnvelope}
+use Rattle.envelopes.specs.Rules.{Within}
+use Rattle.entries.specs.declared.places.Place.{Place}
+use Rattle.envelopes.specs.declared.envelope.Envelope.{Envelope}
+use Rattle.envelopes.proofs.ExactEnvelope.{check-complete}
+use Rattle.papers.specs.Steps.{isPlace}
+use Rattle.semijoin.specs.Offsets.{countIn, rowCount, rowsAt, marksAt}
+use Rattle.semijoin.specs.Shape.{shaped, marksTests, columnTests}
+use Rattle.semijoin.specs.Rising.{among, isRising}
+use Rattle.semijoin.specs.Marks.{reducedBy, reduceOutcome, reducedOf, marksAfter}
+use Rattle.semijoin.specs.Values.{valuesOf, risingValues, occursIn, roomTest, valuesOutcome, gatheredOf, gatheredIn}
+use Rattle.semijoin.specs.Local.{openedIn, openOutcome}
+use Rattle.semijoin.specs.Extents.{extentOf, rowsOver, marksOver, wordOver, keptOver}
+use Rattle.semijoin.specs.Promise.{wordOf, keptAt}
+use Rattle.semijoin.specs.declared.offsets.Extent.{Extent}
+use Rattle.semijoin.specs.declared.marks.Reduced.the-variants as r
+use Rattle.semijoin.specs.declared.values.Gathered.the-variants as g
+use Rattle.semijoin.proofs.JudgedLaws.{number-listed}
+use Rattle.semijoin.proofs.RisingLaws.{rising-exact}
+use Rattle.semijoin.proofs.PromiseLaws.{promise}
+use Rattle.semijoin.proofs.TidyLaws.{tidy-shaped, tidy-row-count, tidy-opened}
+
+-- ---- the answer and the marks of an outcome that is known
+
+module _ (marks : List ℕ) where
+  pub marks-kept : (n p : ℕ) → marksAfter marks (bad n p) ≡ marks
+  unfolding marksAfter
+  marks-kept n p = refl
+
+  pub marks-set : (after : List ℕ) (p : ℕ) → marksAfter marks (good after p) ≡ after
+  unfolding marksAfter
+  marks-set after p = refl
+
+-- ---- a call that begins with 10, 11: of any tests and effect behind them
+
+module _ {A : Type 0} (e : Envelope) (words : List ℕ) (n : ℕ) (ts : List Test) (o : Outcome A) where
+  pub first-shape : shaped e words ≡ false → judged (marksTests e words n ++ ts) o ≡ bad wrongShape 0
+  first-shape s = rw s
+
+  module _ (s : shaped e words ≡ true) where
+    pub then-marks : n < rowCount e words → judged (marksTests e words n ++ ts) o ≡ bad tooShort 0
+    then-marks h = rw (s, lt-ltb n (rowCount e words) h)
+
+    pub then-rest : rowCount e words ≤ n → judged (marksTests e words n ++ ts) o ≡ judged ts o
+    then-rest h = rw (s, le-ltb n (rowCount e words) h)
+
+-- ---- opening
+
+module _ (e : Envelope) (words : List ℕ) (here : ℕ → Bool) (marks : List ℕ) where
+  pub open-bad : (n p : ℕ) → checkEnvelope e ≡ bad n p → openOutcome e words here marks ≡ bad n p
+  unfolding openOutcome
+  open-bad n p h = rw h
+
+  module _ (within : Within e) where
+    -- an envelope that is taken may be looked at as it is
+    pub open-judged : openOutcome e words here marks ≡ judged (marksTests e words (length marks)) (good (openedIn e words here marks) 0)
+    unfolding openOutcome
+    open-judged =
+        rw (check-complete e within, tidy-shaped e within words, tidy-row-count e within words, tidy-opened e within words here)
+
+    pub open-shapeless : shaped e words ≡ false → openOutcome e words here marks ≡ bad wrongShape 0
+    open-shapeless s = open-judged ∙ first-shape e words (length marks) [] (good (openedIn e words here marks) 0) s
+
+    module _ (s : shaped e words ≡ true) where
+      pub open-unmarked : length marks < rowCount e words → openOutcome e words here marks ≡ bad tooShort 0
+      open-unmarked h = open-judged ∙ then-marks e words (length marks) [] (good (openedIn e words here marks) 0) s h
+
+      pub open-taken : rowCount e words ≤ length marks → openOutcome e words here marks ≡ good (openedIn e words here marks) 0
+      open-taken h = open-judged ∙ then-rest e words (length marks) [] (good (openedIn e words here marks) 0) s h
+
+-- ---- the values of a column
+
+module _ (e : Envelope) (a : Place) (words marks : List ℕ) (start : ℕ) (out : List ℕ) where
+  abbrev found : List ℕ
+  found = risingValues e words marks a
+
+  abbrev valuesTests : List Test
+  valuesTests = test (not (isPlace e a)) notOurs 0 ∷ roomTest (risingValues e words marks a) start out ∷ []
+
+  -- its number is one of 10, 11, 14
+  pub values-number : (n p : ℕ) → valuesOutcome e a words marks start out ≡ bad n p
+      → List·Memᴰ n (wrongShape ∷ tooShort ∷ notOurs ∷ tooShort ∷ [])
+  unfolding valuesOutcome
+  values-number n p h = number-listed (columnTests e a words (length marks) ++ roomTest found start out ∷ []) found 0 n p h
+
+  pub values-shapeless : shaped e words ≡ false → valuesOutcome e a words marks start out ≡ bad wrongShape 0
+  unfolding valuesOutcome
+  values-shapeless s = first-shape e words (length marks) valuesTests (good found 0) s
+
+  module _ (s : shaped e words ≡ true) where
+    pub values-unmarked : length marks < rowCount e words → valuesOutcome e a words marks start out ≡ bad tooShort 0
+    unfolding valuesOutcome
+    values-unmarked h = then-marks e words (length marks) valuesTests (good found 0) s h
+
+    module _ (h : rowCount e words ≤ length marks) where
+      pub values-nowhere : isPlace e a ≡ false → valuesOutcome e a words marks start out ≡ bad notOurs 0
+      unfolding valuesOutcome
+      values-nowhere c = then-rest e words (length marks) valuesTests (good found 0) s h ∙ rw c
+
+      module _ (c : isPlace e a ≡ true) where
+        pub values-narrow : length out < start + length (risingValues e words marks a)
+            → valuesOutcome e a words marks start out ≡ bad tooShort 0
+        unfolding valuesOutcome
+        values-narrow k =
+            then-rest e words (length marks) valuesTests (good found 0) s h ∙ rw (c, lt-ltb (length out) (start + length found) k)
+
+        module _ (k : start + length (risingValues e words marks a) ≤ length out) where
+          pub values-taken : valuesOutcome e a words marks start out ≡ good (risingValues e words marks a) 0
+          unfolding valuesOutcome
+          values-taken =
+              then-rest e words (length marks) valuesTests (good found 0) s h ∙ rw (c, le-ltb (length out) (start + length found) k)
+
+          pub values-length : gatheredOf (valuesOutcome e a words marks start out) ≡ g.Length (length (risingValues e words marks a))
+          unfolding gatheredOf
+          values-length = rw values-taken
+
+          pub values-buffer : gatheredIn start out (valuesOutcome e a words marks start out) ≡ sets out start (risingValues e words marks a)
+          unfolding gatheredIn
+          values-buffer = rw values-taken
+
+  -- a refusal, as it is answered
+  module _ (n p : ℕ) (h : valuesOutcome e a words marks start out ≡ bad n p) where
+    pub values-refused : gatheredOf (valuesOutcome e a words marks start out) ≡ g.Refused n p
+    unfolding gatheredOf
+    values-refused = rw h
+
+    pub values-stay : gatheredIn start out (valuesOutcome e a words marks start out) ≡ out
+    unfolding gatheredIn
+    values-stay = rw h
+
+-- a value occurs exactly where tables, marks and column are right and some kept row has it
+module _ (e : Envelope) (a : Place) (words marks : List ℕ) (x : ℕ) where
+  pub occurs-there : shaped e words ≡ true → rowCount e words ≤ length marks → isPlace e a ≡ true
+      → occursIn e a words marks x ≡ among (valuesOf e words marks a) x
+  unfolding occursIn
+  occurs-there s h c = rw (s, le-leb (rowCount e words) (length marks) h, c)
+
+  pub occurs-exact : (occursIn e a words marks x ≡ true)
+      ↔ ((shaped e words ≡ true) × (rowCount e words ≤ length marks) × (isPlace e a ≡ true)
+      × ((i : ℕ) × (keptAt e words marks (a .relation) i ≡ true) × (wordOf e words a i ≡ x)))
+  unfolding occursIn
+  occurs-exact = (
+    λ t.
+        let three = and-left _ _ t in
+        let two = and-left _ _ three in (
+          and-left _ _ two,
+          leb-true _ _ (and-right (shaped e words) _ two),
+          and-right (shaped e words && leb (rowCount e words) (length marks)) _ three,
+          promise e .values-are words marks a x .0 (and-right (shaped e words && leb (rowCount e words) (length marks) && isPlace e a) _ t),
+        ),
+    λ (s, h, c, some).
+        and-both (and-both (and-both s (le-leb _ _ h)) c) (promise e .values-are words marks a x .1 some),
+  )
+
+-- ---- reducing by values
+
+module _ (e : Envelope) (a : Place) (words values marks : List ℕ) where
+  abbrev reduced : List ℕ
+  reduced = reducedBy e words values a marks
+
+  abbrev reduceTests : List Test
+  reduceTests = test (not (isPlace e a)) notOurs 0 ∷ test (not (isRising values)) notSound 0 ∷ []
+
+  -- its number is one of 10, 11, 14, 15
+  pub reduce-number : (n p : ℕ) → reduceOutcome e a words values marks ≡ bad n p
+      → List·Memᴰ n (wrongShape ∷ tooShort ∷ notOurs ∷ notSound ∷ [])
+  unfolding reduceOutcome
+  reduce-number n p h =
+      number-listed (columnTests e a words (length marks) ++ test (not (isRising values)) notSound 0 ∷ []) reduced 0 n p h
+
+  pub reduce-shapeless : shaped e words ≡ false → reduceOutcome e a words values marks ≡ bad wrongShape 0
+  unfolding reduceOutcome
+  reduce-shapeless s = first-shape e words (length marks) reduceTests (good reduced 0) s
+
+  module _ (s : shaped e words ≡ true) where
+    pub reduce-unmarked : length marks < rowCount e words → reduceOutcome e a words values marks ≡ bad tooShort 0
+    unfolding reduceOutcome
+    reduce-unmarked h = then-marks e words (length marks) reduceTests (good reduced 0) s h
+
+    module _ (h : rowCount e words ≤ length marks) where
+      pub reduce-nowhere : isPlace e a ≡ false → reduceOutcome e a words values marks ≡ bad notOurs 0
+      unfolding reduceOutcome
+      reduce-nowhere c = then-rest e words (length marks) reduceTests (good reduced 0) s h ∙ rw c
+
+      module _ (c : isPlace e a ≡ true) where
+        pub reduce-falling : isRising values ≡ false → reduceOutcome e a words values marks ≡ bad notSound 0
+        unfolding reduceOutcome
+        reduce-falling f = then-rest e words (length marks) reduceTests (good reduced 0) s h ∙ rw (c, f)
+
+        module _ (rises : Rises 0 values) where
+          pub reduce-taken : reduceOutcome e a words values marks ≡ good (reducedBy e words values a marks) 0
+          unfolding reduceOutcome
+          reduce-taken = then-rest e words (length marks) reduceTests (good reduced 0) s h ∙ rw (c, rising-exact values .1 rises)
+
+          pub reduce-rows : (n : ℕ) → reducedOf n (reduceOutcome e a words values marks) ≡ r.Rows n
+          unfolding reducedOf
+          reduce-rows n = rw reduce-taken
+
+          pub reduce-marks : marksAfter marks (reduceOutcome e a words values marks) ≡ reducedBy e words values a marks
+          unfolding marksAfter
+          reduce-marks = rw reduce-taken
+
+  -- a refusal, as it is answered
+  module _ (n p : ℕ) (h : reduceOutcome e a words values marks ≡ bad n p) where
+    pub reduce-refused : (m : ℕ) → reducedOf m (reduceOutcome e a words values marks) ≡ r.Refused n p
+    unfolding reducedOf
+    reduce-refused m = rw h
+
+    pub reduce-stay : marksAfter marks (reduceOutcome e a words values marks) ≡ marks
+    unfolding marksAfter
+    reduce-stay = rw h
+
+-- an empty list of values removes every row
+pub none-left : (e : Envelope) (a : Place) (words marks : List ℕ) (i : ℕ) → keptAt e words (reducedBy e words [] a marks) (a .relation) i ≡ false
+none-left e a words marks i = promise e .exactly words [] marks a i ∙ go (keptAt e words marks (a .relation) i)
+  where
+    go : (b : Bool) → (b && false) ≡ false
+    go true = refl
+    go false = refl
+
+-- ---- one row, by an envelope's extent
+
+module _ (e : Envelope) (words : List ℕ) (x : Extent) (i : ℕ) where
+  pub word-by : (a : Place) → x ≡ extentOf e words (a .relation) → (w : ℕ) → w ≡ wordOver x words i (a .column) → w ≡ wordOf e words a i
+  unfolding rowsOver rowsAt
+  word-by a f w g = g ∙ ap (λ (y : Extent). wordOver y words i (a .column)) f
+
+  pub kept-by : (r : ℕ) → x ≡ extentOf e words r → (marks : List ℕ) (b : Bool) → b ≡ keptOver x marks i → b ≡ keptAt e words marks r i
+  unfolding marksOver marksAt
+  kept-by r f marks b g = g ∙ ap (λ (y : Extent). keptOver y marks i) f
+
+pub rows-by : (e : Envelope) (words : List ℕ) (x : Extent) (r : ℕ) → x ≡ extentOf e words r → x .rows ≡ countIn e words r
+rows-by e words x r f = ap (λ (y : Extent). y .rows) f

@@ -1,0 +1,80 @@
+-- The figures of 01 on tables: one list of what the definitions give and what the paper says, under one statement.
+-- Same day: COUPON (number, date) = (11,20) (12,20) (13,21); WEIGH (number, date, loss) = (11,20,5) (12,20,7) (12,20,7) (14,22,3).
+use mathlib.Core.Path.{_≡_, refl}
+use mathlib.Core.List.{List, [], _∷_, map}
+use Prim.Native.Nat.{ℕ}
+use Rattle.ground.specs.Lists.{each, padded, numbersFrom}
+use Rattle.ground.specs.Rising.{insert, rising}
+use Rattle.entries.specs.Relations.{relationWith}
+use Rattle.entries.specs.Places.{place}
+use Rattle.entries.specs.Clauses.{clause}
+use Rattle.envelopes.specs.Parts.{relationsOf, clausesOf, targetsOf, columnsIn, noEnvelope, withVersion, withSizes, withRelations, withClauses, withTargets}
+use Rattle.entries.specs.declared.places.Place.{Place}
+use Rattle.entries.specs.declared.relations.Column.{Column}
+use Rattle.entries.specs.declared.clauses.ClauseKind.the-variants.{Join}
+use Rattle.envelopes.specs.declared.envelope.Envelope.{Envelope}
+use Rattle.papers.specs.Meaning.{Row, rowsIn, tablesIn, tablesOf, meetsAll, answerOn, answerRows, answerWords}
+use Rattle.papers.specs.Steps.{step}
+use Rattle.semijoin.specs.Offsets.{countIn, wordsBefore, rowsBefore, firstWord, rowsAt, marksAt}
+use Rattle.semijoin.specs.Marks.{keptOf, keptRows, sieved, reducedBy, removedOf, removedBy}
+use Rattle.semijoin.specs.Values.{valuesOf, risingValues}
+use Rattle.semijoin.specs.Run.{stepped}
+
+-- a column of a domain, of width 1, with so many distinct values
+abbrev column : ℕ → ℕ → Column
+column d n = record { domain = d; width = 1; distinct = n }
+
+-- COUPON at site 1 and WEIGH at site 2, joined on one column; the targets are COUPON's number and the loss
+abbrev sameDay : Place → Place → Envelope
+sameDay a b =
+    withTargets (place 0 0 ∷ place 1 2 ∷ [])
+    (withClauses (clause (Join a b) ∷ [])
+    (withRelations
+    (relationWith 1 2 3 (column 0 3 ∷ column 1 2 ∷ []) ∷ relationWith 2 3 4 (column 0 3 ∷ column 1 2 ∷ column 2 3 ∷ []) ∷ [])
+    (withSizes (100 ∷ 100 ∷ 100 ∷ [])
+    (withVersion 1 noEnvelope))))
+
+abbrev pub onNumber : Envelope
+onNumber = sameDay (place 0 0) (place 1 0)
+
+abbrev pub onDate : Envelope
+onDate = sameDay (place 0 1) (place 1 1)
+
+abbrev pub couponWeigh : List ℕ
+couponWeigh =
+    3 ∷ 4
+    ∷ 11 ∷ 20 ∷ 12 ∷ 20 ∷ 13 ∷ 21
+    ∷ 11 ∷ 20 ∷ 5 ∷ 12 ∷ 20 ∷ 7 ∷ 12 ∷ 20 ∷ 7 ∷ 14 ∷ 22 ∷ 3 ∷ []
+
+-- every row kept, and one byte past the last
+abbrev allKept : List ℕ
+allKept = 1 ∷ 1 ∷ 1 ∷ 1 ∷ 1 ∷ 1 ∷ 1 ∷ 9 ∷ []
+
+abbrev words : List Row → List ℕ
+words rows = each (λ (row : Row). row) rows
+
+pub record Figure : Type 0 where
+  pub got : List ℕ
+  pub want : List ℕ
+
+abbrev figure : List ℕ → List ℕ → Figure
+figure g w = record { got = g; want = w }
+
+abbrev pub figures : List Figure
+figures =
+    -- joined on number, and on date
+    figure (answerWords onNumber couponWeigh) (11 ∷ 5 ∷ 12 ∷ 7 ∷ 12 ∷ 7 ∷ [])
+    ∷ figure (answerWords onDate couponWeigh) (11 ∷ 5 ∷ 11 ∷ 7 ∷ 11 ∷ 7 ∷ 12 ∷ 5 ∷ 12 ∷ 7 ∷ 12 ∷ 7 ∷ [])
+    -- COUPON reduced by WEIGH on date keeps its first two rows: by the dates rising, and in one place
+    ∷ figure (risingValues onDate couponWeigh allKept (place 1 1)) (20 ∷ 22 ∷ [])
+    ∷ figure (reducedBy onDate couponWeigh (20 ∷ 22 ∷ []) (place 0 1) allKept) (1 ∷ 1 ∷ 0 ∷ 1 ∷ 1 ∷ 1 ∷ 1 ∷ 9 ∷ [])
+    ∷ figure (stepped onDate couponWeigh (step (place 0 1) (place 1 1)) allKept) (1 ∷ 1 ∷ 0 ∷ 1 ∷ 1 ∷ 1 ∷ 1 ∷ 9 ∷ [])
+    ∷ figure (words (keptRows onDate couponWeigh (stepped onDate couponWeigh (step (place 0 1) (place 1 1)) allKept) 0)) (11 ∷ 20 ∷ 12 ∷ 20 ∷ [])
+    -- an empty list of values removes every row
+    ∷ figure (reducedBy onDate couponWeigh [] (place 0 1) allKept) (0 ∷ 0 ∷ 0 ∷ 1 ∷ 1 ∷ 1 ∷ 1 ∷ 9 ∷ [])
+    ∷ figure (removedBy onDate couponWeigh [] (place 0 1) allKept ∷ []) (3 ∷ [])
+    ∷ []
+
+pub figures-hold : map (λ (f : Figure). f .got) figures ≡ map (λ (f : Figure). f .want) figures
+unfolding padded numbersFrom insert rising relationsOf clausesOf targetsOf columnsIn withVersion withSizes withRelations withClauses withTargets rowsIn tablesIn tablesOf meetsAll answerOn answerRows countIn wordsBefore rowsBefore firstWord rowsAt marksAt keptOf keptRows sieved reducedBy removedOf removedBy valuesOf risingValues stepped
+figures-hold = refl
