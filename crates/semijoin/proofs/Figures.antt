@@ -4,21 +4,33 @@ use mathlib.Core.Path.{_≡_, refl}
 use mathlib.Core.List.{List, [], _∷_, map}
 use Prim.Native.Nat.{ℕ}
 use Rattle.ground.specs.Lists.{each, padded, numbersFrom}
+use Rattle.ground.specs.Outcome.{numbered, nextOf}
+use Rattle.ground.specs.Bytes.{littleEnd, bytesOf}
+use Rattle.ground.specs.Searching.{firstFrom}
 use Rattle.ground.specs.Rising.{insert, rising}
-use Rattle.entries.specs.Relations.{relationWith}
-use Rattle.entries.specs.Places.{place}
-use Rattle.entries.specs.Clauses.{clause}
-use Rattle.envelopes.specs.Parts.{relationsOf, clausesOf, targetsOf, columnsIn, noEnvelope, withVersion, withSizes, withRelations, withClauses, withTargets}
+use Rattle.fields.specs.Numbers.{numberAt, numberThat, marked, markOf, versionAt, headOf}
+use Rattle.entries.specs.Relations.{relationWith, columnsOf, columnAt, columnBytes, columnsThen, relationAt, relationBytes}
+use Rattle.entries.specs.Places.{place, samePlace, placeAt, placeBytes}
+use Rattle.entries.specs.Clauses.{clause, domainOf, selectionAt, joined, joinAt, clauseAt, kindBytes}
 use Rattle.entries.specs.declared.places.Place.{Place}
 use Rattle.entries.specs.declared.relations.Column.{Column}
 use Rattle.entries.specs.declared.clauses.ClauseKind.the-variants.{Join}
+use Rattle.envelopes.specs.Parts.{columnsIn, sizesOf, relationsOf, clausesOf, targetsOf, noEnvelope, withVersion, withSizes, withRelations, withClauses, withTargets}
+use Rattle.envelopes.specs.Sites.{siteOf, isAt, holds}
+use Rattle.envelopes.specs.Kept.{names, kept, keptColumns, firstBare}
+use Rattle.envelopes.specs.Envelope.{filled, listInto, ended, targetsThen, clausesThen, relationsThen, sizesThen, envelopeFrom, envelopeBytes, checkEnvelope}
 use Rattle.envelopes.specs.declared.envelope.Envelope.{Envelope}
+use Rattle.papers.specs.Paths.{edges, onPath}
+use Rattle.papers.specs.Steps.{step, isPlace, legalBy, stepBytes}
+use Rattle.papers.specs.Implied.{constantsOf, selectionsBy, equalitiesBy}
+use Rattle.papers.specs.Programs.{stepsOf, programWith, stepAt, endedProgram, stepsThen, programBy, readProgram, programBytes, checkProgram}
 use Rattle.papers.specs.Meaning.{Row, rowsIn, tablesIn, tablesOf, meetsAll, answerOn, answerRows, answerWords}
-use Rattle.papers.specs.Steps.{step}
 use Rattle.semijoin.specs.Offsets.{countIn, wordsBefore, rowsBefore, firstWord, rowsAt, marksAt}
-use Rattle.semijoin.specs.Marks.{keptOf, keptRows, sieved, reducedBy, removedOf, removedBy}
+use Rattle.semijoin.specs.Shape.{shaped}
+use Rattle.semijoin.specs.Marks.{keptOf, keptRows, sieved, reducedBy, removedOf, removedBy, marksAfter}
 use Rattle.semijoin.specs.Values.{valuesOf, risingValues}
-use Rattle.semijoin.specs.Run.{stepped}
+use Rattle.semijoin.specs.Local.{passesBy, passes, openedAt, opened}
+use Rattle.semijoin.specs.Run.{stepped, runMarks, runChecked, runOutcome}
 
 -- a column of a domain, of width 1, with so many distinct values
 abbrev column : ℕ → ℕ → Column
@@ -50,6 +62,10 @@ couponWeigh =
 abbrev allKept : List ℕ
 allKept = 1 ∷ 1 ∷ 1 ∷ 1 ∷ 1 ∷ 1 ∷ 1 ∷ 9 ∷ []
 
+-- any bytes, one past the last row
+abbrev bytes : List ℕ
+bytes = 0 ∷ 1 ∷ 2 ∷ 3 ∷ 4 ∷ 5 ∷ 6 ∷ 9 ∷ []
+
 abbrev words : List Row → List ℕ
 words rows = each (λ (row : Row). row) rows
 
@@ -70,11 +86,14 @@ figures =
     ∷ figure (reducedBy onDate couponWeigh (20 ∷ 22 ∷ []) (place 0 1) allKept) (1 ∷ 1 ∷ 0 ∷ 1 ∷ 1 ∷ 1 ∷ 1 ∷ 9 ∷ [])
     ∷ figure (stepped onDate couponWeigh (step (place 0 1) (place 1 1)) allKept) (1 ∷ 1 ∷ 0 ∷ 1 ∷ 1 ∷ 1 ∷ 1 ∷ 9 ∷ [])
     ∷ figure (words (keptRows onDate couponWeigh (stepped onDate couponWeigh (step (place 0 1) (place 1 1)) allKept) 0)) (11 ∷ 20 ∷ 12 ∷ 20 ∷ [])
+    -- both envelopes are taken, each of 72 bytes; the whole run, with its refusals, of that one step
+    ∷ figure (nextOf (checkEnvelope onNumber) ∷ nextOf (checkEnvelope onDate) ∷ []) (72 ∷ 72 ∷ [])
+    ∷ figure (marksAfter bytes (runOutcome onDate (programWith 1 (step (place 0 1) (place 1 1) ∷ [])) couponWeigh bytes)) (1 ∷ 1 ∷ 0 ∷ 1 ∷ 1 ∷ 1 ∷ 1 ∷ 9 ∷ [])
     -- an empty list of values removes every row
     ∷ figure (reducedBy onDate couponWeigh [] (place 0 1) allKept) (0 ∷ 0 ∷ 0 ∷ 1 ∷ 1 ∷ 1 ∷ 1 ∷ 9 ∷ [])
     ∷ figure (removedBy onDate couponWeigh [] (place 0 1) allKept ∷ []) (3 ∷ [])
     ∷ []
 
 pub figures-hold : map (λ (f : Figure). f .got) figures ≡ map (λ (f : Figure). f .want) figures
-unfolding padded numbersFrom insert rising relationsOf clausesOf targetsOf columnsIn withVersion withSizes withRelations withClauses withTargets rowsIn tablesIn tablesOf meetsAll answerOn answerRows countIn wordsBefore rowsBefore firstWord rowsAt marksAt keptOf keptRows sieved reducedBy removedOf removedBy valuesOf risingValues stepped
+unfolding numbered padded numbersFrom littleEnd bytesOf firstFrom insert rising numberAt numberThat marked markOf versionAt headOf samePlace placeAt placeBytes columnsOf columnAt columnBytes columnsThen relationAt relationBytes domainOf selectionAt joined joinAt clauseAt kindBytes sizesOf relationsOf clausesOf targetsOf columnsIn withVersion withSizes withRelations withClauses withTargets siteOf isAt holds names kept keptColumns firstBare ended filled listInto targetsThen clausesThen relationsThen sizesThen envelopeFrom envelopeBytes checkEnvelope edges onPath isPlace legalBy stepBytes constantsOf selectionsBy equalitiesBy stepsOf stepAt endedProgram stepsThen programBy readProgram programBytes checkProgram rowsIn tablesIn tablesOf meetsAll answerOn answerRows countIn wordsBefore rowsBefore firstWord rowsAt marksAt keptOf keptRows sieved reducedBy removedOf removedBy valuesOf risingValues stepped nextOf shaped passesBy passes openedAt opened runMarks runChecked runOutcome marksAfter
 figures-hold = refl
