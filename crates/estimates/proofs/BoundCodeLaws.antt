@@ -17,8 +17,12 @@ use Rattle.entries.specs.declared.relations.Relation.{Relation}
 use Rattle.envelopes.specs.declared.envelope.Envelope.{Envelope}
 use Rattle.envelopes.proofs.TidyLaws.{tidy-relations}
 use Rattle.estimates.specs.Profile.{columnOf, given}
+use Rattle.estimates.specs.Ready.{Ready}
+use Rattle.estimates.specs.Candidates.{Bounded}
 use Rattle.estimates.specs.declared.profiles.Profile.{Profile}
-use Rattle.estimates.proofs.ProfileLaws.{Inside, getD-every}
+use Rattle.estimates.specs.declared.costs.Costs.{Costs}
+use Rattle.estimates.proofs.ProfileLaws.{Inside, getD-every, rows-most}
+use Rattle.estimates.proofs.CostLaws.{width-most}
 
 abbrev Few : Column → Type 0
 Few c = c .distinct ≤ 1000000
@@ -52,3 +56,12 @@ module _ (e : Envelope) (w : Within e) (t : tidy e ≡ e) where
       (getD-every (λ n. n ≤ 1000000) 0 zero-le (given e .counts)
       (every-mapped (λ n. n ≤ 1000000) (λ j. columnOf e (record { relation = j / 8; column = j % 8 }) .distinct) (below 64)
       (every-of _ (below 64) (λ j _. distinct-most _))) i)
+
+pub inside-bounded : (k : Costs) (e : Envelope) (local : Profile) → Ready k e local → (p : Profile) → Inside e p → Bounded k e p
+inside-bounded k e local ready p i =
+    record {
+      prices = ready .cheap;
+      rows = rows-most e (ready .within) p i;
+      counts = counts-most e (ready .within) (ready .tidied) p i;
+      widths = width-most e (ready .within);
+    }

@@ -33,7 +33,7 @@ module _ {P S : Type 0} (k : Kind P S) where
   Greedy unused p (s ∷ ss) = First (gain k p) unused s × (k .cost p s < k .benefit p s) × Greedy (without k s unused) (k .after p s) ss
 
   module _ (tells : (s t : S) → (k .same s t ≡ true) ↔ (s ≡ t)) where
-    same-self : (s : S) → not (k .same s s) ≡ false
+    pub same-self : (s : S) → not (k .same s s) ≡ false
     same-self s = rw (tells s s .1 refl)
 
     same-other : (s t : S) → Apart s t → not (k .same s t) ≡ true

@@ -30,7 +30,7 @@ use Rattle.estimates.specs.Short.{Y}
 use Rattle.estimates.specs.Profile.{columnOf, domainSize, widthOf, given, shrunk, afterSelection, rowsAfter, countAfter, afterStep, benefit, localProfile}
 use Rattle.estimates.specs.Costs.{plainCosts, priced, stepCost, assemblyAt}
 use Rattle.estimates.specs.Choice.{total}
-use Rattle.estimates.specs.Plan.{kindOf, sameStep, siteFor, greedySteps, reduced, planned, linesOf, estimated, planFor}
+use Rattle.estimates.specs.Plan.{kindOf, sameStep, siteFor, greedySteps, dropsAt, reduced, planned, linesOf, estimated, planFor}
 use Rattle.estimates.specs.declared.plans.Line.{Line}
 use Rattle.estimates.specs.declared.plans.Plan.{Plan}
 
@@ -100,5 +100,5 @@ figures =
     ∷ []
 
 pub figures-hold : map (λ (f : Figure). f .got) figures ≡ map (λ (f : Figure). f .want) figures
-unfolding padded numbersFrom firstFrom insert rising verdictOf samePlace domainOf sizesOf relationsOf clausesOf targetsOf columnsIn withVersion withSizes withRelations withClauses withTargets siteOf isAt holds names kept keptColumns edges onPath places isPlace legalBy legalSteps constantsOf selectionsBy over Y columnOf domainSize widthOf given shrunk afterSelection rowsAfter countAfter afterStep benefit localProfile plainCosts priced stepCost assemblyAt sameStep siteFor greedySteps reduced planned linesOf estimated planFor
+unfolding padded numbersFrom firstFrom insert rising verdictOf samePlace domainOf sizesOf relationsOf clausesOf targetsOf columnsIn withVersion withSizes withRelations withClauses withTargets siteOf isAt holds names kept keptColumns edges onPath places isPlace legalBy legalSteps constantsOf selectionsBy over Y columnOf domainSize widthOf given shrunk afterSelection rowsAfter countAfter afterStep benefit localProfile plainCosts priced stepCost assemblyAt sameStep siteFor greedySteps dropsAt reduced planned linesOf estimated planFor
 figures-hold = refl

@@ -5,6 +5,9 @@ pub mod ShortLaws
 pub mod ProfileLaws
 pub mod CostLaws
 pub mod SublistLaws
+pub mod OrderedLaws
+pub mod SiftingLaws
+pub mod ChoosingLaws
 pub mod ChoiceLaws
 pub mod DropLaws
 pub mod PlanLaws
@@ -14,5 +17,13 @@ pub mod ProfileCodeLaws
 pub mod StepCodeLaws
 pub mod CostCodeLaws
 pub mod BoundCodeLaws
+pub mod SiteCodeLaws
+pub mod CandidateCodeLaws
+pub mod ChoiceCodeLaws
 pub mod LocalCodeLaws
-pub mod PlanCodeLaws
+pub mod TotalCodeLaws
+pub mod EstimatorCodeLaws
+pub mod NumberCodeLaws
+pub mod OrderCodeLaws
+pub mod DropCodeLaws
+pub mod PlannerCodeLaws

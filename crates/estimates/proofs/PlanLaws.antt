@@ -33,7 +33,7 @@ use Rattle.papers.proofs.StepCountLaws.{legal-few}
 use Rattle.estimates.specs.Profile.{afterStep, benefit, localProfile}
 use Rattle.estimates.specs.Costs.{stepCost, assemblyAt}
 use Rattle.estimates.specs.Choice.{Handed, gain, afterAll, costs, total, cheapest, fallback}
-use Rattle.estimates.specs.Plan.{sameStep, kindOf, siteFor, greedySteps, reduced, planned, line, linesOf, estimated, planFor}
+use Rattle.estimates.specs.Plan.{sameStep, kindOf, siteFor, greedySteps, dropsAt, reduced, planned, line, linesOf, costsIn, estimated, planFor}
 use Rattle.estimates.specs.declared.profiles.Profile.{Profile}
 use Rattle.estimates.specs.declared.costs.Costs.{Costs}
 use Rattle.estimates.specs.declared.plans.Line.{Line}
@@ -105,8 +105,8 @@ module _ (k : Costs) (e : Envelope) where
       go (inl (u, l)) = rw u (f l)
       go (inr u) = rw u q
 
-  reduced-part : Sublistᴰ (reduced k e .steps) (greedySteps k e)
-  unfolding reduced
+  pub reduced-part : Sublistᴰ (reduced k e .steps) (greedySteps k e)
+  unfolding reduced dropsAt
   reduced-part = drops-part (kindOf k e) noStep (localProfile e) site (λ (s : Step). isAt e site (s .left .relation)) (greedySteps k e)
     where
       site : ℕ
@@ -117,11 +117,24 @@ module _ (k : Costs) (e : Envelope) where
   plan-part =
       planned-either (λ (h : Handed Step). Sublistᴰ (h .steps) (greedySteps k e)) (λ _. reduced-part) (Sublistᴰ·nil-sublist (greedySteps k e))
 
-  pub plan-legal : Every (λ (s : Step). legal e s ≡ true) (planned k e .steps)
-  plan-legal =
-      every-of _ (planned k e .steps)
+  -- of what the greedy program has every step is legal
+  pub part-legal : (ss : List Step) → Sublistᴰ ss (greedySteps k e) → Every (λ (s : Step). legal e s ≡ true) ss
+  part-legal ss h =
+      every-of _ ss
       (λ s m. legal-member e s .1
-      (greedy-from (kindOf k e) step-tells (legalSteps e) (localProfile e) (greedySteps k e) plan-greedy (part-mem plan-part m)))
+      (greedy-from (kindOf k e) step-tells (legalSteps e) (localProfile e) (greedySteps k e) plan-greedy (part-mem h m)))
+
+  pub part-few : Within e → (ss : List Step) → Sublistᴰ ss (greedySteps k e) → length ss ≤ 156
+  part-few w ss h =
+      omega (
+        arith,
+        part-length h,
+        greedy-few (kindOf k e) step-tells (legalSteps e) (localProfile e) (greedySteps k e) plan-greedy,
+        legal-few e w,
+      )
+
+  pub plan-legal : Every (λ (s : Step). legal e s ≡ true) (planned k e .steps)
+  plan-legal = part-legal (planned k e .steps) plan-part
 
   -- none twice
   pub plan-once : Ordered Apart (planned k e .steps)
@@ -130,20 +143,14 @@ module _ (k : Costs) (e : Envelope) where
       (greedy-once (kindOf k e) step-tells (legalSteps e) (localProfile e) (greedySteps k e) plan-greedy)
 
   pub plan-few : Within e → length (planned k e .steps) ≤ 156
-  plan-few w =
-      omega (
-        arith,
-        part-length plan-part,
-        greedy-few (kindOf k e) step-tells (legalSteps e) (localProfile e) (greedySteps k e) plan-greedy,
-        legal-few e w,
-      )
+  plan-few w = part-few w (planned k e .steps) plan-part
 
   -- ---- the site
 
   abbrev sites : List ℕ
   sites = filter (holds e) (below 8)
 
-  site-chosen : (p : Profile) → Within e → List·Memᴰ (siteFor k e p) sites
+  pub site-chosen : (p : Profile) → Within e → List·Memᴰ (siteFor k e p) sites
   unfolding siteFor siteOf isAt holds
   site-chosen p w = go (cheapest (kindOf k e) p sites) (cheapest-is (kindOf k e) p sites)
     where
@@ -163,11 +170,11 @@ module _ (k : Costs) (e : Envelope) where
       go none c = absurd (List·Memᴰ·not-nil (rw c at first))
       go (some a) c = rw (c .stands) (Memᴰ·append-right (c .before) (List·Memᴰ·head refl))
 
-  reduced-site : Within e → List·Memᴰ (reduced k e .site) sites
+  pub reduced-site : Within e → List·Memᴰ (reduced k e .site) sites
   unfolding reduced
   reduced-site w = site-chosen (afterAll (kindOf k e) (localProfile e) (greedySteps k e)) w
 
-  plan-site-chosen : Within e → List·Memᴰ (planned k e .site) sites
+  pub plan-site-chosen : Within e → List·Memᴰ (planned k e .site) sites
   plan-site-chosen w =
       planned-either (λ (h : Handed Step). List·Memᴰ (h .site) sites) (λ _. reduced-site w) (site-chosen (localProfile e) w)
 
@@ -209,7 +216,7 @@ module _ (k : Costs) (e : Envelope) where
   lines-at p (s ∷ ss) zero z h = refl
   lines-at p (s ∷ ss) (suc i) z h = lines-at (afterStep e p s) ss i z (le-of-suc-le-suc h)
 
-  lines-costs : (p : Profile) (ss : List Step) → map (λ (l : Line). l .cost) (linesOf k e p ss) ≡ costs (kindOf k e) p ss
+  pub lines-costs : (p : Profile) (ss : List Step) → costsIn (linesOf k e p ss) ≡ costs (kindOf k e) p ss
   unfolding linesOf
   lines-costs p [] = refl
   lines-costs p (s ∷ ss) = ap (λ (l : List ℕ). stepCost k e p s ∷ l) (lines-costs (afterStep e p s) ss)

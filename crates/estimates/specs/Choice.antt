@@ -27,6 +27,17 @@ pub record Handed (S : Type 0) : Type 0 where
   pub steps : List S
   pub site : ℕ
 
+-- the numbers of a program's steps, by their costs, dearest first, earlier first on a tie: n of those that are left
+abbrev pub dearest : List ℕ → ℕ → List ℕ → List ℕ
+dearest cs zero left = []
+dearest cs (suc n) left =
+    elim (firstOfGreatest (λ i. suc (getD cs i 0)) left)
+    [ none ↦ [] | some i ↦ i ∷ dearest cs n (filter (λ j. not (eqb i j)) left) ]
+
+-- the steps of some numbers
+abbrev pub stepsAt : {S : Type 0} → S → List S → List ℕ → List S
+stepsAt z ss numbers = map (λ i. getD ss i z) numbers
+
 module _ {P S : Type 0} (k : Kind P S) where
   -- benefit minus cost, 0 where the benefit is not above the cost
   abbrev pub gain : P → S → ℕ
@@ -65,18 +76,7 @@ module _ {P S : Type 0} (k : Kind P S) where
   cheapest p [] = none
   cheapest p (a ∷ l) = cheaper p a (cheapest p l)
 
-  -- the places of a program, dearest first, earlier first on a tie: n of those that are left
-  abbrev pub dearest : List ℕ → ℕ → List ℕ → List ℕ
-  dearest cs zero left = []
-  dearest cs (suc n) left =
-      elim (firstOfGreatest (λ i. suc (getD cs i 0)) left)
-      [ none ↦ [] | some i ↦ i ∷ dearest cs n (filter (λ j. not (eqb i j)) left) ]
-
-  -- the steps at some places of a program
-  abbrev pub stepsAt : S → List S → List ℕ → List S
-  stepsAt z ss places = map (λ i. getD ss i z) places
-
-  -- each place once, in order: without it where that makes the total strictly lower
+  -- each number once, in order: without it where that makes the total strictly lower
   abbrev pub dropped : P → ℕ → (List ℕ → List S) → List ℕ → List ℕ → List ℕ
   dropped p site steps [] kept = kept
   dropped p site steps (i ∷ order) kept =
@@ -86,10 +86,10 @@ module _ {P S : Type 0} (k : Kind P S) where
   -- the program after drops at a site: mine says of a step whether its left relation is there
   abbrev pub drops : S → P → ℕ → (S → Bool) → List S → List S
   drops z p site mine ss =
-      let places = below (length ss) in
-      let there = filter (λ i. mine (getD ss i z)) places in
-      let order = dearest (costs p ss) (length ss) there in
-      stepsAt z ss (dropped p site (stepsAt z ss) order places)
+      let numbers = below (length ss) in
+      let there = filter (λ i. mine (getD ss i z)) numbers in
+      let order = dearest (costs p ss) (length there) there in
+      stepsAt z ss (dropped p site (stepsAt z ss) order numbers)
 
   -- the fallback
   abbrev pub fallback : P → ℕ → Handed S → Handed S

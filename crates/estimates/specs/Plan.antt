@@ -5,7 +5,7 @@ use mathlib.Core.List.{List, [], _∷_, map}
 use mathlib.Core.Option.{Option, none, some}
 use Prim.Native.Nat.{ℕ, _+_}
 use lib.ListN.{length, replicate}
-use Rattle.ground.specs.Lists.{filter, below, padded}
+use Rattle.ground.specs.Lists.{filter, below, padded, sum}
 use Rattle.ground.specs.Outcome.{Outcome, next, verdictOf, valueOf}
 use Rattle.ground.specs.Outcome.Outcome.{good, bad}
 use Rattle.entries.specs.Places.{samePlace}
@@ -18,9 +18,10 @@ use Rattle.papers.specs.declared.steps.Step.{Step}
 use Rattle.papers.specs.declared.programs.Program.{Program}
 use Rattle.estimates.specs.Profile.{benefit, afterStep, localProfile}
 use Rattle.estimates.specs.Costs.{plainCosts, stepCost, assemblyAt}
-use Rattle.estimates.specs.Choice.{Kind, Handed, greedy, afterAll, total, cheapest, drops, fallback}
+use Rattle.estimates.specs.Choice.{Kind, Handed, greedy, afterAll, costs, total, cheapest, drops, fallback}
 use Rattle.estimates.specs.declared.profiles.Profile.{Profile}
 use Rattle.estimates.specs.declared.costs.Costs.{Costs}
+use Rattle.estimates.specs.declared.totals.Gone.{Gone}
 use Rattle.estimates.specs.declared.plans.Line.{Line}
 use Rattle.estimates.specs.declared.plans.Plan.{Plan}
 use Rattle.estimates.specs.declared.plans.Estimate.{Estimate}
@@ -40,6 +41,11 @@ kindOf k e =
       same = sameStep;
     }
 
+-- what the steps of a program leave behind local operations, and what they cost
+unfoldable pub gone : Costs → Envelope → List Step → Gone
+gone k e ss =
+    record { profile = afterAll (kindOf k e) (localProfile e) ss; spent = sum (costs (kindOf k e) (localProfile e) ss) }
+
 -- ---- the five points
 
 -- the cheapest site that holds a relation
@@ -49,13 +55,16 @@ siteFor k e p = elim (cheapest (kindOf k e) p (filter (holds e) (below 8))) [ no
 unfoldable pub greedySteps : Costs → Envelope → List Step
 greedySteps k e = greedy (kindOf k e) (length (legalSteps e)) (legalSteps e) (localProfile e)
 
+-- what drops leave of a program: of its steps those whose left relation is at the site are looked at
+unfoldable pub dropsAt : Costs → Envelope → ℕ → List Step → List Step
+dropsAt k e site ss = drops (kindOf k e) noStep (localProfile e) site (λ (s : Step). isAt e site (s .left .relation)) ss
+
 -- the greedy program at its cheapest site, after drops
 unfoldable pub reduced : Costs → Envelope → Handed Step
 reduced k e =
-    let p = localProfile e in
     let ss = greedySteps k e in
-    let site = siteFor k e (afterAll (kindOf k e) p ss) in
-    record { steps = drops (kindOf k e) noStep p site (λ (s : Step). isAt e site (s .left .relation)) ss; site = site }
+    let site = siteFor k e (afterAll (kindOf k e) (localProfile e) ss) in
+    record { steps = dropsAt k e site ss; site = site }
 
 unfoldable pub planned : Costs → Envelope → Handed Step
 planned k e = fallback (kindOf k e) (localProfile e) (siteFor k e (localProfile e)) (reduced k e)
@@ -68,6 +77,9 @@ line s b c = record { step = s; benefit = b; cost = c }
 unfoldable pub linesOf : Costs → Envelope → Profile → List Step → List Line
 linesOf k e p [] = []
 linesOf k e p (s ∷ ss) = line s (benefit e p s) (stepCost k e p s) ∷ linesOf k e (afterStep e p s) ss
+
+abbrev pub costsIn : List Line → List ℕ
+costsIn lines = map (λ (l : Line). l .cost) lines
 
 -- a program at a site, with what it is expected to cost
 unfoldable pub estimated : Costs → Envelope → List Step → ℕ → Estimate
@@ -97,9 +109,9 @@ planFor k e =
 
 -- ---- of an envelope, a program, that are structs: they are checked first
 
-unfoldable pub planOf : Outcome Envelope → Plan
-planOf (good e p) = planFor plainCosts e
-planOf (bad n p) =
+-- a refusal, with nothing beside it
+unfoldable pub noPlan : ℕ → ℕ → Plan
+noPlan n p =
     record {
       verdict = verdictOf {A = Envelope} (bad n p);
       site = 0;
@@ -110,9 +122,15 @@ planOf (bad n p) =
       local = 0;
     }
 
-unfoldable pub estimateOf : Outcome Envelope → Outcome Program → Estimate
-estimateOf (bad n p) q =
+unfoldable pub planOf : Outcome Envelope → Plan
+planOf (good e p) = planFor plainCosts e
+planOf (bad n p) = noPlan n p
+
+unfoldable pub noEstimate : ℕ → ℕ → Estimate
+noEstimate n p =
     record { verdict = verdictOf {A = Envelope} (bad n p); count = 0; lines = replicate 156 (line noStep 0 0); assembly = 0; total = 0 }
-estimateOf (good e p) (bad n q) =
-    record { verdict = verdictOf {A = Envelope} (bad n q); count = 0; lines = replicate 156 (line noStep 0 0); assembly = 0; total = 0 }
+
+unfoldable pub estimateOf : Outcome Envelope → Outcome Program → Estimate
+estimateOf (bad n p) q = noEstimate n p
+estimateOf (good e p) (bad n q) = noEstimate n q
 estimateOf (good e p) (good f q) = estimated plainCosts e (stepsOf f) (f .site)

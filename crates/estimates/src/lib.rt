@@ -1,6 +1,15 @@
 // Estimates and the planner: what a step is expected to do and cost, and which steps to take.
+pub mod candidates;
+pub mod choice;
 pub mod costs;
 mod division;
+mod drops;
+pub mod estimator;
 mod locals;
+pub mod numbers;
+mod order;
+pub mod planner;
 pub mod plans;
 pub mod profiles;
+mod sites;
+mod totals;

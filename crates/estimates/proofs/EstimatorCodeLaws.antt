@@ -1,0 +1,173 @@
+-- The laws that the code of the estimator goes by: what holds at the head of the loop over the steps, and what each return
+-- answers.
+use mathlib.Core.Path.{_≡_, refl, sym, ap, _∙_}
+use mathlib.Core.List.{List, [], _∷_, _++_, append-nil}
+use Prim.Native.Nat.{ℕ, _+_, _≤_, _<_}
+use native.Mathlib.Omega.{arith}
+use lib.ListN.{length, getD, take, drop, set, replicate}
+use lib.Seq.{append-snoc}
+use Rattle.ground.specs.Lists.{padded, sum}
+use Rattle.ground.specs.Outcome.{Outcome, next, nextOf, verdictOf}
+use Rattle.ground.specs.Outcome.Outcome.{good, bad}
+use Rattle.ground.specs.declared.Verdict.the-variants.{Taken, Refused}
+use Rattle.ground.proofs.CollectingLaws.{Collecting, collecting-start, collecting-push}
+use Rattle.envelopes.specs.Rules.{Within, tidy}
+use Rattle.envelopes.specs.Envelope.{checkEnvelope, shownEnvelope}
+use Rattle.envelopes.specs.declared.envelope.Envelope.{Envelope}
+use Rattle.envelopes.specs.declared.reading.EnvelopeRead.{EnvelopeRead}
+use Rattle.envelopes.proofs.ReadingLaws.{read-refused, read-taken}
+use Rattle.envelopes.proofs.ExactEnvelope.{check-sound}
+use Rattle.papers.specs.Programs.{noStep, stepsOf, readProgram, programAgainst, programBytes, checkProgram, shownProgram, Acceptable}
+use Rattle.papers.specs.declared.steps.Step.{Step}
+use Rattle.papers.specs.declared.programs.Program.{Program}
+use Rattle.papers.specs.declared.programs.ProgramRead.{ProgramRead}
+use Rattle.papers.proofs.ProgramCodeLaws.{program-taken, program-refused}
+use Rattle.papers.proofs.ExactPrograms.{program-bytes, program-exact}
+use Rattle.estimates.specs.Profile.{benefit, afterStep, localProfile}
+use Rattle.estimates.specs.Costs.{plainCosts, stepCost, assemblyAt}
+use Rattle.estimates.specs.Choice.{afterAll, costs, total}
+use Rattle.estimates.specs.Plan.{kindOf, gone, line, linesOf, estimated, noEstimate, estimateOf}
+use Rattle.estimates.specs.Ready.{Ready}
+use Rattle.estimates.specs.Candidates.{Bounded, Shrinks}
+use Rattle.estimates.specs.declared.profiles.Profile.{Profile}
+use Rattle.estimates.specs.declared.costs.Costs.{Costs}
+use Rattle.estimates.specs.declared.plans.Line.{Line}
+use Rattle.estimates.specs.declared.plans.Estimate.{Estimate}
+use Rattle.estimates.specs.declared.totals.Gone.{Gone}
+use Rattle.estimates.proofs.CostLaws.{assembly-most, plain-most}
+use Rattle.estimates.proofs.ChoiceLaws.{total-is}
+use Rattle.estimates.proofs.BoundCodeLaws.{inside-bounded}
+use Rattle.estimates.proofs.TotalCodeLaws.{Spending, spending-start, spending-more, spending-done, step-shrinks, rest, none-left}
+
+-- ---- the loop over the steps: of n steps i are gone through, and stand in the lines
+
+pub record Estimating (k : Costs) (e : Envelope) (steps : List Step) (n i : ℕ) (p : Profile) (spent : ℕ) (lines : List Line) : Type 0 where
+  pub spending : Spending k e steps n i p spent
+  pub done : List Line
+  pub collected : Collecting 156 (line noStep 0 0) done i lines
+  pub told : linesOf k e (localProfile e) (take n steps) ≡ done ++ linesOf k e p (drop i (take n steps))
+
+module _ (k : Costs) (e : Envelope) (local : Profile) (w : Ready k e local) where
+  pub estimating-start : (f : Program) → Acceptable e f → (z : Line) → z ≡ line noStep 0 0
+      → Estimating k e (f .steps) (f .count) 0 local 0 (replicate 156 z)
+  estimating-start f a z h =
+      record {
+        spending = spending-start k e local w f a;
+        done = [];
+        collected = rw h (collecting-start 156 (line noStep 0 0));
+        told = rw (w .local);
+      }
+
+  module _ (steps : List Step) (n i : ℕ) (p : Profile) (spent : ℕ) (lines : List Line)
+      (a : Estimating k e steps n i p spent lines) where
+    abbrev ss : List Step
+    ss = take n steps
+
+    pub assembly-small : (site x : ℕ) → x ≡ assemblyAt k e p site → spent + x ≤ 1000000000000
+    assembly-small site x g =
+        omega (
+          arith,
+          a .spending .small,
+          a .spending .within,
+          a .spending .few,
+          g,
+          assembly-most e (w .within) k 1 (w .cheap) site p (a .spending .inside),
+        )
+
+    pub line-ready : i < n → Bounded k e p × Shrinks e p (getD steps i noStep)
+    line-ready h = (
+      inside-bounded k e local w p (a .spending .inside),
+      step-shrinks k e local w steps n i p spent (a .spending) h,
+    )
+
+    pub estimating-more : i < n → (l : Line)
+        → l ≡ line (getD steps i noStep) (benefit e p (getD steps i noStep)) (stepCost k e p (getD steps i noStep))
+        → (q : Profile) → q ≡ afterStep e p (getD steps i noStep) → Estimating k e steps n (i + 1) q (spent + l .cost) (set lines i l)
+    unfolding linesOf
+    estimating-more h l g q u =
+        let s : Step = getD steps i noStep in
+        record {
+          spending = spending-more k e local w steps n i p spent (a .spending) h (l .cost) (ap (λ (x : Line). x .cost) g) q u;
+          done = a .done ++ (l ∷ []);
+          collected = collecting-push 156 (line noStep 0 0) (a .done) i lines (a .collected) l (omega (arith, a .spending .few));
+          told =
+              a .told ∙ ap (λ (x : List Step). a .done ++ linesOf k e p x) (rest k e local w steps n i p spent (a .spending) h)
+              ∙ ap (λ (y : Profile). a .done ++ line s (benefit e p s) (stepCost k e p s) ∷ linesOf k e y (drop (i + 1) ss)) (sym u)
+              ∙ ap (λ (x : Line). a .done ++ x ∷ linesOf k e q (drop (i + 1) ss)) (sym g)
+              ∙ sym (append-snoc (a .done) l (linesOf k e q (drop (i + 1) ss)));
+        }
+
+    estimating-done : n ≤ i → (site x : ℕ) → x ≡ assemblyAt k e p site
+        → _≡_ {A = Estimate} (record { verdict = Taken; count = n; lines = lines; assembly = x; total = spent + x }) (estimated k e ss site)
+    unfolding estimated verdictOf linesOf gone
+    estimating-done h site x g =
+        let m : linesOf k e (localProfile e) ss ≡ a .done =
+        a .told ∙ rw (none-left k e local w steps n i p spent (a .spending) h) (append-nil (a .done)) in
+        let u : _≡_ {A = Gone} (record { profile = p; spent = spent }) (gone k e ss) = spending-done k e local w steps n i p spent (a .spending) h in
+        let q : afterAll (kindOf k e) (localProfile e) ss ≡ p = ap (λ (y : Gone). y .profile) (sym u) in
+        let s : sum (costs (kindOf k e) (localProfile e) ss) ≡ spent = ap (λ (y : Gone). y .spent) (sym u) in
+        rw (total-is (kindOf k e) (localProfile e) site ss, a .spending .whole, m, q, s, g, a .collected .array)
+
+  pub estimated-through : (f : Program) (i : ℕ) (p : Profile) (spent : ℕ) (lines : List Line) → Estimating k e (f .steps) (f .count) i p spent lines
+      → f .count ≤ i → (x : ℕ) → x ≡ assemblyAt k e p (f .site)
+      → _≡_ {A = Estimate} (record { verdict = Taken; count = f .count; lines = lines; assembly = x; total = spent + x })
+      (estimated k e (stepsOf f) (f .site))
+  unfolding stepsOf
+  estimated-through f i p spent lines a h x g = estimating-done (f .steps) (f .count) i p spent lines a h (f .site) x g
+
+-- ---- plain prices
+
+pub plain-ready : (e : Envelope) → Within e → tidy e ≡ e → (k : Costs) → k ≡ plainCosts → (p : Profile) → p ≡ localProfile e → Ready k e p
+plain-ready e w t k f p g = record { within = w; tidied = t; cheap = rw f plain-most; local = g }
+
+pub plain-estimate : (e : Envelope) (ss : List Step) (site : ℕ) (k : Costs) → k ≡ plainCosts → (x : Estimate) → x ≡ estimated k e ss site
+    → x ≡ estimated plainCosts e ss site
+plain-estimate e ss site k f x g = g ∙ rw f
+
+-- ---- a line
+
+pub line-is : (s : Step) (b c x y : ℕ) → b ≡ x → c ≡ y → _≡_ {A = Line} (record { step = s; benefit = b; cost = c }) (line s x y)
+line-is s b c x y f g = rw (f, g)
+
+-- ---- envelope and program are checked first
+
+module _ (e : Envelope) (f : Program) (c : EnvelopeRead) (g : c ≡ shownEnvelope (checkEnvelope e)) where
+  pub estimate-envelope : (x : Estimate) (m q : ℕ) → c .verdict ≡ Refused m q → x ≡ noEstimate m q
+      → x ≡ estimateOf (checkEnvelope e) (checkProgram e f)
+  unfolding estimateOf
+  estimate-envelope x m q v h = h ∙ rw (read-refused (checkEnvelope e) c m q g v)
+
+  module _ (v : c .verdict ≡ Taken) where
+    taken : checkEnvelope e ≡ good (c .envelope) (nextOf (checkEnvelope e))
+    taken = read-taken (checkEnvelope e) c g v
+
+    pub taken-within : Within (c .envelope) × (tidy (c .envelope) ≡ c .envelope)
+    taken-within = check-sound e (c .envelope) (nextOf (checkEnvelope e)) taken .0
+
+    module _ (d : ProgramRead) (j : d ≡ shownProgram (checkProgram e f)) where
+      pub estimate-program : (x : Estimate) (m q : ℕ) → d .verdict ≡ Refused m q → x ≡ noEstimate m q
+          → x ≡ estimateOf (checkEnvelope e) (checkProgram e f)
+      unfolding estimateOf
+      estimate-program x m q u h = h ∙ rw (taken, program-refused (checkProgram e f) d m q j u)
+
+      module _ (u : d .verdict ≡ Taken) where
+        found : checkProgram e f ≡ good (d .program) (nextOf (checkProgram e f))
+        found = program-taken (checkProgram e f) d j u
+
+        pub estimate-both : (x : Estimate) → x ≡ estimated plainCosts (c .envelope) (stepsOf (d .program)) (d .program .site)
+            → x ≡ estimateOf (checkEnvelope e) (checkProgram e f)
+        unfolding estimateOf
+        estimate-both x h = h ∙ sym (rw (taken, found))
+
+        against : programAgainst (c .envelope) (programBytes f) ≡ good (d .program) (nextOf (checkProgram e f))
+        unfolding checkProgram readProgram
+        against = sym (ap (λ (o : Outcome Envelope). next o (λ (y : Envelope) (_ : ℕ). programAgainst y (programBytes f))) taken) ∙ found
+
+        pub found-acceptable : Acceptable (c .envelope) (d .program)
+        found-acceptable =
+            program-exact (c .envelope) (taken-within .0) (programBytes f) (d .program) (nextOf (checkProgram e f)) (program-bytes f) .0 against .0 .0
+
+pub refused-is : (m q : ℕ) (z : Line) → z ≡ line noStep 0 0
+    → _≡_ {A = Estimate} (record { verdict = Refused m q; count = 0; lines = replicate 156 z; assembly = 0; total = 0 }) (noEstimate m q)
+unfolding noEstimate verdictOf
+refused-is m q z h = rw h

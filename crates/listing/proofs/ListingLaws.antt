@@ -1,0 +1,68 @@
+-- The laws of the listing: its parts put one behind the other are its lines.
+use mathlib.Core.Path.{_≡_, _∙_}
+use mathlib.Core.List.{List, _++_}
+use Prim.Native.Nat.{ℕ, _≤_}
+use native.Mathlib.Nat.{zero-add}
+use native.Mathlib.Omega.{arith}
+use lib.ListN.{length, take}
+use Rattle.ground.specs.Lists.{each}
+use Rattle.ground.specs.declared.Verdict.the-variants.{Taken, Refused}
+use Rattle.fields.specs.Puts.{Puts, Fronts}
+use Rattle.papers.specs.declared.steps.Step.{Step}
+use Rattle.estimates.specs.declared.plans.Line.{Line}
+use Rattle.estimates.specs.declared.plans.Plan.{Plan}
+use Rattle.listing.specs.Text.{text, decimal, labelled}
+use Rattle.listing.specs.Listing.{heading, stepText, stepLine, lastLine, refusedLine, planLines, listing}
+use Rattle.listing.proofs.TextLaws.{both-put, three-put, four-put}
+
+module _ (o x y z t : List ℕ) (at a b c r : ℕ) where
+  pub step-put : (s : Step) → Puts o at 20 (decimal (s .left .relation)) a x → Puts x a 21 (labelled " " (s .left .column)) b y
+      → Puts y b 21 (labelled " " (s .right .relation)) c z → Puts z c 21 (labelled " " (s .right .column)) r t
+      → Puts o at 83 (stepText s) r t
+  unfolding stepText
+  step-put s f g h i =
+      four-put o x y at a b 20 21 21 (decimal (s .left .relation)) (labelled " " (s .left .column)) (labelled " " (s .right .relation)) f g
+      z c h 21 (labelled " " (s .right .column)) t r i
+
+  pub line-put : (l : Line) → Puts o at 83 (stepText (l .step)) a x → Puts x a 21 (labelled " " (l .benefit)) b y
+      → Puts y b 21 (labelled " " (l .cost)) c z → Puts z c 1 (text "\n") r t → Puts o at 126 (stepLine l) r t
+  unfolding stepLine
+  line-put l f g h i =
+      four-put o x y at a b 83 21 21 (stepText (l .step)) (labelled " " (l .benefit)) (labelled " " (l .cost)) f g z c h 1 (text "\n") t r i
+
+  pub last-put : (p : Plan) (m : List ℕ) (d : ℕ) → Puts o at 25 (labelled "site " (p .site)) a x
+      → Puts x a 30 (labelled " assembly " (p .assembly)) b y → Puts y b 27 (labelled " total " (p .total)) c z
+      → Puts z c 27 (labelled " local " (p .local)) d m → Puts m d 1 (text "\n") r t → Puts o at 110 (lastLine p) r t
+  unfolding lastLine
+  last-put p m d f g h i j =
+      both-put o m t at d r 109 1
+      (labelled "site " (p .site) ++ labelled " assembly " (p .assembly) ++ labelled " total " (p .total) ++ labelled " local " (p .local)) (text "\n")
+      (four-put o x y at a b 25 30 27 (labelled "site " (p .site)) (labelled " assembly " (p .assembly)) (labelled " total " (p .total)) f g
+      z c h 27 (labelled " local " (p .local)) m d i) j
+
+module _ (o x y t : List ℕ) (a b r : ℕ) where
+  pub refusal-put : (number position : ℕ) → Puts o 0 28 (labelled "refused " number) a x → Puts x a 21 (labelled " " position) b y
+      → Puts y b 1 (text "\n") r t → Puts o 0 50 (refusedLine number position) r t
+  unfolding refusedLine
+  refusal-put number position f g h =
+      three-put o x y 0 a b 28 21 1 (labelled "refused " number) (labelled " " position) (text "\n") f g t r h
+
+  pub plan-put : (p : Plan) → Puts o 0 38 heading a x → Puts x a 19656 (each stepLine (take (p .count) (p .lines))) b y
+      → Puts y b 110 (lastLine p) r t → Puts o 0 19804 (planLines p) r t
+  unfolding planLines
+  plan-put p f g h =
+      three-put o x y 0 a b 38 19656 110 heading (each stepLine (take (p .count) (p .lines))) (lastLine p) f g t r h
+
+-- ---- by the verdict
+
+module _ (f : Plan) (o t : List ℕ) (r : ℕ) where
+  front : (most : ℕ) (l : List ℕ) → most ≤ 19804 → Puts o 0 most l r t → listing f ≡ l → Fronts o 19804 (listing f) r t
+  front most l h (p, q, u) e = (p ∙ rw e (zero-add (length l)), q ∙ rw e, omega arith)
+
+  pub listing-taken : f .verdict ≡ Taken → Puts o 0 19804 (planLines f) r t → Fronts o 19804 (listing f) r t
+  unfolding listing
+  listing-taken v p = front 19804 (planLines f) (omega arith) p (rw v)
+
+  pub listing-refused : (n q : ℕ) → f .verdict ≡ Refused n q → Puts o 0 50 (refusedLine n q) r t → Fronts o 19804 (listing f) r t
+  unfolding listing
+  listing-refused n q v p = front 50 (refusedLine n q) (omega arith) p (rw v)

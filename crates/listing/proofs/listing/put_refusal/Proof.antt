@@ -1,0 +1,53 @@
+use Rattle.listing.proofs.ListingLaws.{refusal-put}
+use borrow.Author.Needs.{needs}
+use Rattle.listing.proofs.listing.put_refusal.Statement.{statement}
+use Rattle.listing.proofs.listing.put_refusal.Tie as tie
+use Rattle.listing.proofs.listing.put_refusal.Reads as reads
+use Rattle.listing.proofs.listing.put_refusal.Lts as lts
+use Rattle.listing.proofs.texts.put_labelled.Reads as put-labelled-reads
+use Rattle.listing.proofs.texts.put_words.Reads as put-words-reads
+
+-- src/listing.rt:75:41
+slice-aggregate-put-labelled : tie.Need-slice-aggregate-put-labelled
+slice-aggregate-put-labelled c = search needs
+
+-- src/listing.rt:75:9
+put-labelled-requires : tie.Need-put-labelled-requires
+put-labelled-requires c κs = search needs
+
+-- src/listing.rt:76:41
+slice-aggregate-put-labelled-2 : tie.Need-slice-aggregate-put-labelled-2
+slice-aggregate-put-labelled-2 c = search needs
+
+-- src/listing.rt:76:9
+put-labelled-requires-2 : tie.Need-put-labelled-requires-2
+put-labelled-requires-2 c κs = search needs
+
+-- src/listing.rt:77:30
+slice-aggregate-put-words : tie.Need-slice-aggregate-put-words
+slice-aggregate-put-words c = search needs
+
+-- src/listing.rt:77:5
+put-words-requires : tie.Need-put-words-requires
+put-words-requires c κs = search needs
+
+-- src/listing.rt:72:1
+same-length : tie.Need-same-length
+same-length c = search needs
+
+-- src/listing.rt:72:1
+returns : tie.Need-returns
+returns c = search (refusal-put, needs)
+
+pub put-refusal-spec : {M : Type 1} → statement M
+put-refusal-spec =
+    tie.close
+    (tie.spec
+    slice-aggregate-put-labelled
+    put-labelled-requires
+    slice-aggregate-put-labelled-2
+    put-labelled-requires-2
+    slice-aggregate-put-words
+    put-words-requires
+    same-length
+    returns)

@@ -1,0 +1,28 @@
+use Rattle.listing.proofs.TextLaws.{both-put}
+use borrow.Author.Needs.{needs}
+use Rattle.listing.proofs.texts.put_labelled.Statement.{statement}
+use Rattle.listing.proofs.texts.put_labelled.Tie as tie
+use Rattle.listing.proofs.texts.put_labelled.Reads as reads
+use Rattle.listing.proofs.texts.put_labelled.Lts as lts
+use Rattle.listing.proofs.texts.put_decimal.Reads as put-decimal-reads
+use Rattle.listing.proofs.texts.put_words.Reads as put-words-reads
+
+-- src/texts.rt:62:9
+put-words-requires : tie.Need-put-words-requires
+put-words-requires c κs = search needs
+
+-- src/texts.rt:63:5
+put-decimal-requires : tie.Need-put-decimal-requires
+put-decimal-requires c κs = search needs
+
+-- src/texts.rt:58:1
+same-length : tie.Need-same-length
+same-length c = search needs
+
+-- src/texts.rt:58:1
+returns : tie.Need-returns
+returns c = search (both-put, needs)
+
+pub put-labelled-spec : {M : Type 1} → statement M
+put-labelled-spec =
+    tie.close (tie.spec put-words-requires put-decimal-requires same-length returns)

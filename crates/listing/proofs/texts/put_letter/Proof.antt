@@ -1,0 +1,22 @@
+use Rattle.listing.proofs.TextLaws.{letter-put}
+use borrow.Author.Needs.{needs}
+use Rattle.listing.proofs.texts.put_letter.Statement.{statement}
+use Rattle.listing.proofs.texts.put_letter.Tie as tie
+use Rattle.listing.proofs.texts.put_letter.Reads as reads
+use Rattle.listing.proofs.texts.put_letter.Lts as lts
+use Rattle.fields.proofs.puts.put_number.Reads as put-number-reads
+
+-- src/texts.rt:15:5
+put-number-requires : tie.Need-put-number-requires
+put-number-requires c κs = search needs
+
+-- src/texts.rt:12:1
+same-length : tie.Need-same-length
+same-length c = search needs
+
+-- src/texts.rt:12:1
+returns : tie.Need-returns
+returns c = search (letter-put, needs)
+
+pub put-letter-spec : {M : Type 1} → statement M
+put-letter-spec = tie.close (tie.spec put-number-requires same-length returns)

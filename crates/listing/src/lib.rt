@@ -1,0 +1,3 @@
+// What the program `plan` prints, put into a lent buffer.
+pub mod listing;
+mod texts;
