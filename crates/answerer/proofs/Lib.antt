@@ -1,0 +1,10 @@
+-- The laws of the answer.
+pub mod Examples
+pub mod EachLaws
+pub mod BeginningLaws
+pub mod SourceLaws
+pub mod SourceCodeLaws
+pub mod BeginningCodeLaws
+pub mod FittingLaws
+pub mod CombinationCodeLaws
+pub mod AnswerCodeLaws
