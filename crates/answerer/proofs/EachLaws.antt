@@ -1,5 +1,5 @@
 -- Laws of lists joined, beyond those of the ground: of those elements that pass, and of lists joined twice.
-use mathlib.Core.Path.{_≡_, refl, sym, ap, _∙_}
+use mathlib.Core.Path.{_≡_, refl, ap, _∙_}
 use mathlib.Core.Bool.{Bool, true, false, not}
 use mathlib.Core.List.{List, [], _∷_, _++_, map, map-append}
 use Rattle.ground.specs.Tests.{pick}

@@ -7,4 +7,5 @@ pub mod SourceCodeLaws
 pub mod BeginningCodeLaws
 pub mod FittingLaws
 pub mod CombinationCodeLaws
+pub mod AnswerLaws
 pub mod AnswerCodeLaws
