@@ -7,8 +7,9 @@ use native.Mathlib.Nat.{min-le-left}
 use native.Mathlib.Numerals.{add-one}
 use native.Mathlib.Omega.{arith}
 use lib.ListN.{length, getD, take, drop, replicate, length-take, drop-of-length-le}
-use lib.Seq.{sets, length-sets, drop-cons, getD-take}
+use lib.Seq.{sets, drop-cons, getD-take}
 use Rattle.ground.specs.Lists.{Every, below}
+use Rattle.ground.specs.Rising.{Rises}
 use Rattle.ground.specs.Outcome.{Outcome, verdictOf, next, nextOf}
 use Rattle.ground.specs.Outcome.Outcome.{good}
 use Rattle.ground.specs.declared.Verdict.{Verdict}
@@ -16,14 +17,15 @@ use Rattle.ground.specs.declared.Verdict.the-variants.{Taken, Refused}
 use Rattle.ground.proofs.ListLaws.{each-alike}
 use Rattle.ground.proofs.EveryLaws.{every-getD}
 use Rattle.ground.proofs.NumbersLaws.{below-from}
+use Rattle.fields.proofs.PutLaws.{fresh-bytes}
 use Rattle.envelopes.specs.Envelope.{checkEnvelope, shownEnvelope}
-use Rattle.envelopes.specs.Parts.{relationCount, columnsIn}
+use Rattle.envelopes.specs.Parts.{relationCount}
 use Rattle.envelopes.specs.Rules.{Within}
 use Rattle.envelopes.specs.declared.envelope.Envelope.{Envelope}
 use Rattle.envelopes.specs.declared.reading.EnvelopeRead.{EnvelopeRead}
 use Rattle.envelopes.proofs.ReadingLaws.{read-taken, read-refused}
 use Rattle.envelopes.proofs.ExactEnvelope.{check-sound}
-use Rattle.papers.specs.Steps.{legal}
+use Rattle.papers.specs.Steps.{legal, LegalStep}
 use Rattle.papers.specs.Programs.{noStep, stepsOf, programAgainst, programBytes, readProgram, checkProgram, shownProgram}
 use Rattle.papers.specs.declared.steps.Step.{Step}
 use Rattle.papers.specs.declared.programs.Program.{Program}
@@ -31,31 +33,42 @@ use Rattle.papers.specs.declared.programs.ProgramRead.{ProgramRead}
 use Rattle.papers.proofs.StepLaws.{legal-step}
 use Rattle.papers.proofs.ProgramCodeLaws.{program-taken, program-refused}
 use Rattle.papers.proofs.ExactPrograms.{program-bytes, program-exact}
-use Rattle.semijoin.specs.Offsets.{firstMark, marksAt, rowsAt}
-use Rattle.semijoin.specs.Shape.{marksTests, judgement}
+use Rattle.semijoin.specs.Shape.{shaped, marksTests, judgement}
 use Rattle.semijoin.specs.Local.{openedAt, opened, openedIn}
-use Rattle.semijoin.specs.Marks.{reducedBy, sieved, marksAfter}
-use Rattle.semijoin.specs.Values.{valuesOf}
+use Rattle.semijoin.specs.Marks.{reducedBy, marksAfter}
+use Rattle.semijoin.specs.Values.{valuesOf, risingValues}
 use Rattle.semijoin.specs.Run.{stepped, steppedAll, runMarks, runChecked, runOutcome}
 use Rattle.semijoin.proofs.JudgedLaws.{judge-refused, judge-taken}
-use Rattle.semijoin.proofs.SieveCodeLaws.{place-relation, place-column}
+use Rattle.semijoin.proofs.ShapeLaws.{shaped-shape}
+use Rattle.semijoin.proofs.PromiseLaws.{promise}
 use Rattle.semijoin.proofs.CallCodeLaws.{after-refused, after-taken}
 
--- ---- a legal step is one that can be taken
+-- ---- a step, by the right column's rising values
 
-pub record Ready (e : Envelope) (s : Step) : Type 0 where
-  pub left : (s .left .relation < relationCount e) × (s .left .column < columnsIn e (s .left .relation))
-  pub right : (s .right .relation < relationCount e) × (s .right .column < columnsIn e (s .right .relation))
-  pub differ : s .left .relation ≡ s .right .relation → ⊥
+module _ (e : Envelope) (words marks : List ℕ) (s : Step) (size n : ℕ) (values after : List ℕ)
+    (f : n ≡ length (risingValues e words marks (s .right))) (g : values ≡ sets (replicate size 0) 0 (risingValues e words marks (s .right)))
+    (t : shaped e words ≡ true) (h : 4096 ≤ size) where
+  few : length (risingValues e words marks (s .right)) ≤ size
+  few = omega (arith, promise e .no-more words marks (s .right), shaped-shape e words t .few (s .right .relation))
 
-pub legal-ready : (e : Envelope) (s : Step) → legal e s ≡ true → Ready e s
-legal-ready e s t =
-    let k = legal-step e s t in
-    record {
-      left = (place-relation e (s .left) (k .left), place-column e (s .left) (k .left));
-      right = (place-relation e (s .right) (k .right), place-column e (s .right) (k .right));
-      differ = k .differ;
-    }
+  found : take n values ≡ risingValues e words marks (s .right)
+  found = fresh-bytes size size (risingValues e words marks (s .right)) n values (f, g, omega (arith, few)) (omega arith)
+
+  pub step-fits : n ≤ size
+  step-fits = omega (arith, few)
+
+  pub step-count : n ≡ length (take n values)
+  step-count = f ∙ ap length (sym found)
+
+  pub step-rises : Rises 0 (take n values)
+  step-rises = rw found (promise e .rises words marks (s .right))
+
+  pub step-taken : after ≡ reducedBy e words (take n values) (s .left) marks → after ≡ stepped e words s marks
+  unfolding stepped
+  step-taken a =
+      a
+      ∙ ap (λ (l : List ℕ). reducedBy e words l (s .left) marks) found
+      ∙ promise e .either-list words marks (s .right) words marks (s .left)
 
 pub legal-used : (e : Envelope) (p : Program) → Every (λ (s : Step). legal e s ≡ true) (stepsOf p)
     → Every (λ (s : Step). legal e s ≡ true) (take (p .count) (p .steps))
@@ -63,10 +76,8 @@ unfolding stepsOf
 legal-used e p h = h
 
 stepped-long : (e : Envelope) (words : List ℕ) (s : Step) (marks : List ℕ) → length (stepped e words s marks) ≡ length marks
-unfolding stepped reducedBy
-stepped-long e words s marks =
-    length-sets marks (firstMark e words (s .left .relation))
-    (sieved (valuesOf e words marks (s .right)) (s .left .column) (marksAt e words (s .left .relation) marks) (rowsAt e words (s .left .relation)))
+unfolding stepped
+stepped-long e words s marks = promise e .as-many words (valuesOf e words marks (s .right)) marks (s .left)
 
 -- ---- steps one after the other
 
@@ -92,10 +103,10 @@ module _ (e : Envelope) (words : List ℕ) (l : List Step) (n : ℕ) (before : L
         is-step : getD (take n l) i noStep ≡ getD l i noStep
         is-step = getD-take n l i noStep (omega (arith, u))
 
-        pub taking-ready : Every (λ (s : Step). legal e s ≡ true) (take n l) → Ready e (getD l i noStep)
-        taking-ready all =
+        pub taking-legal : Every (λ (s : Step). legal e s ≡ true) (take n l) → LegalStep e (getD l i noStep)
+        taking-legal all =
             let k : i < length (take n l) = omega (arith, used) in
-            legal-ready e (getD l i noStep)
+            legal-step e (getD l i noStep)
             (rw is-step at (every-getD (λ (s : Step). legal e s ≡ true) (take n l) i noStep k all))
 
         pub taking-more : (after : List ℕ) → after ≡ stepped e words (getD l i noStep) marks → Taking e words (take n l) before (i + 1) after

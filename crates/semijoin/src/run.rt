@@ -1,70 +1,32 @@
 // The one-place run: every check first, then local operations on all relations, then every step.
-use crate::offsets::Extent;
 use envelopes::envelope::Envelope;
 use ground::Verdict;
 use papers::programs::Program;
 use papers::steps::Step;
 ghost use mathlib.Core.Path.{_≡_};
-ghost use mathlib.Core.Logic.{_⊎_};
 ghost use mathlib.Core.Bool.{true};
-ghost use mathlib.Core.List.{[]};
-ghost use Prim.Native.Nat.{_+_, _*_, _<_, _≤_};
-ghost use lib.ListN.{length, take, getD, set};
-ghost use Rattle.ground.specs.Tests.{pick};
+ghost use Prim.Native.Nat.{_≤_};
+ghost use lib.ListN.{length, take};
 ghost use Rattle.ground.specs.Lists.{Every};
 ghost use Rattle.ground.specs.Outcome.{verdictOf};
-ghost use Rattle.envelopes.specs.Parts.{relationCount, columnsIn};
 ghost use Rattle.envelopes.specs.Rules.{Within};
-ghost use Rattle.papers.specs.Meaning.{wordIn};
-ghost use Rattle.papers.specs.Steps.{legal};
+ghost use Rattle.papers.specs.Steps.{isPlace, legal};
 ghost use Rattle.papers.specs.Programs.{stepsOf};
 ghost use Rattle.semijoin.specs.Offsets.{rowCount};
 ghost use Rattle.semijoin.specs.Shape.{shaped};
-ghost use Rattle.semijoin.specs.Rising.{among};
 ghost use Rattle.semijoin.specs.Marks.{marksAfter};
-ghost use Rattle.semijoin.specs.Extents.{rowsOver, valuesOver, sievedOver};
 ghost use Rattle.semijoin.specs.Run.{stepped, steppedAll, runOutcome, runChecked};
 
-// One row of the left relation, kept where its value stands in the right column.
-fn step_row(
-    tables: &[u32],
-    left: Extent,
-    column: u8,
-    row: usize,
-    right: Extent,
-    other: u8,
-    marks: &mut [u8],
-) -> usize
-    requires { ⌜ (row < left .rows) × (column < left .columns) × (left .word + left .rows * left .columns ≤ length (now tables)) × (left .mark + left .rows ≤ length (now marks)) × (other < right .columns) × (right .word + right .rows * right .columns ≤ length (now tables)) × (right .mark + right .rows ≤ length (now marks)) ⌝ }
-    ensures { λ r. ⌜ now (marks .exit) ≡ set (now (marks .entry)) (left .mark + row) (pick (among (valuesOver right other (now (tables .entry)) (now (marks .entry))) (wordIn (getD (rowsOver left (now (tables .entry))) row []) column)) (getD (now (marks .entry)) (left .mark + row) 0) 0) ⌝ }
-{
-    let value = crate::rows::word_in(tables, left, row, column);
-    let stays = crate::values::has_value(tables, marks, right, other, value);
-    crate::rows::keep_if(marks, left.mark + row, stays)
-}
-
-// The left relation, reduced by the right column where that lies. The two relations lie apart.
-fn step_over(tables: &[u32], left: Extent, column: u8, right: Extent, other: u8, marks: &mut [u8])
-    requires { ⌜ (column < left .columns) × (left .word + left .rows * left .columns ≤ length (now tables)) × (left .mark + left .rows ≤ length (now marks)) × (other < right .columns) × (right .word + right .rows * right .columns ≤ length (now tables)) × (right .mark + right .rows ≤ length (now marks)) × ((left .mark + left .rows ≤ right .mark) ⊎ (right .mark + right .rows ≤ left .mark)) ⌝ }
-    ensures { λ r. ⌜ now (marks .exit) ≡ sievedOver left column (now (tables .entry)) (valuesOver right other (now (tables .entry)) (now (marks .entry))) (now (marks .entry)) ⌝ }
-{
-    let mut row: usize = 0;
-    while row < left.rows {
-        step_row(tables, left, column, row, right, other, marks);
-        row += 1;
-    }
-}
-
-// A step in one place.
+// A step in one place: the right column's values, then the left relation by those. A relation has at most 4,096 rows.
 fn take_step(envelope: Envelope, step: Step, tables: &[u32], marks: &mut [u8])
-    requires { ⌜ (shaped envelope (now tables) ≡ true) × (rowCount envelope (now tables) ≤ length (now marks)) × (step .left .relation < relationCount envelope) × (step .left .column < columnsIn envelope (step .left .relation)) × (step .right .relation < relationCount envelope) × (step .right .column < columnsIn envelope (step .right .relation)) × (step .left .relation ≡ step .right .relation → ⊥) ⌝ }
+    requires { ⌜ (shaped envelope (now tables) ≡ true) × (rowCount envelope (now tables) ≤ length (now marks)) × (isPlace envelope (step .left) ≡ true) × (isPlace envelope (step .right) ≡ true) ⌝ }
     ensures { λ r. ⌜ now (marks .exit) ≡ stepped envelope (now (tables .entry)) step (now (marks .entry)) ⌝ }
 {
-    let a = step.left;
-    let b = step.right;
-    let left = crate::offsets::extent_of(envelope, tables, a.relation);
-    let right = crate::offsets::extent_of(envelope, tables, b.relation);
-    step_over(tables, left, a.column, right, b.column, marks);
+    let left = step.left;
+    let right = step.right;
+    let mut values = [0u32; 4096];
+    let n = crate::values::gather_all(envelope, right, tables, marks, &mut values);
+    crate::marks::reduce(envelope, left, tables, &values[..n], marks);
 }
 
 fn take_steps(envelope: Envelope, steps: [Step; 156], n: u8, tables: &[u32], marks: &mut [u8])

@@ -1,6 +1,6 @@
 use Prim.Native.Nat.{_-_}
 use lib.ListN.{take}
-use Rattle.semijoin.proofs.RunCodeLaws.{Taking, taking-start, taking-more, taking-done, taking-ready}
+use Rattle.semijoin.proofs.RunCodeLaws.{Taking, taking-start, taking-more, taking-done, taking-legal}
 use borrow.Author.Needs.{needs}
 use native.Mathlib.Omega.{arith}
 use Rattle.semijoin.proofs.run.take_steps.Statement.{statement}
@@ -36,8 +36,8 @@ array-copy-out-step c = search needs
 take-step-requires : tie.Need-take-step-requires Inv-loop μ-loop
 take-step-requires c κs =
     let s = c .before .before .before .before .before .before .before in
-    let r = taking-ready (s .args .envelope) (s .args .tables .now) (s .args .t2) (s .args .n) (s .args .marks .now) _ (omega arith) (c .before .before .before .before .in-use .ensures) _ _ (c .before .before .before .loop .inv) (c .before .before .loop-test .taken) (s .pre .2) in
-    (search needs, search needs, r .left .0, r .left .1, r .right .0, r .right .1, r .differ)
+    let r = taking-legal (s .args .envelope) (s .args .tables .now) (s .args .t2) (s .args .n) (s .args .marks .now) _ (omega arith) (c .before .before .before .before .in-use .ensures) _ _ (c .before .before .before .loop .inv) (c .before .before .loop-test .taken) (s .pre .2) in
+    (search needs, search needs, r .left, r .right)
 
 -- src/run.rt:30:9
 add-i : tie.Need-add-i Inv-loop μ-loop
