@@ -5,20 +5,21 @@ use mathlib.Core.List.{List, [], List·Memᴰ, Sublistᴰ, Sublistᴰ·refl}
 use Prim.Native.Nat.{ℕ, _≤_, _<_}
 use native.Mathlib.Omega.{arith}
 use borrow.Author.Tests.{lt-ltb, le-ltb}
-use lib.ListN.{length, replicate}
+use lib.ListN.{length, getD, replicate}
 use Rattle.ground.specs.Lists.{filter, below}
 use Rattle.ground.specs.Outcome.{Outcome, nextOf, verdictOf}
 use Rattle.ground.specs.Outcome.Outcome.{good, bad}
 use Rattle.ground.specs.declared.Verdict.the-variants.{Taken, Refused}
 use Rattle.ground.proofs.ListLaws.{filter-from}
+use Rattle.ground.proofs.EveryLaws.{every-index}
 use Rattle.ground.proofs.CollectingLaws.{padded-nil}
 use Rattle.envelopes.specs.Sites.{holds}
 use Rattle.envelopes.specs.Rules.{Within, tidy}
-use Rattle.envelopes.specs.Envelope.{checkEnvelope, shownEnvelope}
+use Rattle.envelopes.specs.Envelope.{readEnvelope, checkEnvelope, shownEnvelope}
 use Rattle.envelopes.specs.declared.envelope.Envelope.{Envelope}
 use Rattle.envelopes.specs.declared.reading.EnvelopeRead.{EnvelopeRead}
 use Rattle.envelopes.proofs.ReadingLaws.{read-refused, read-taken}
-use Rattle.envelopes.proofs.ExactEnvelope.{check-sound}
+use Rattle.envelopes.proofs.ExactEnvelope.{envelope-exact, check-sound}
 use Rattle.papers.specs.Programs.{noStep, stepsOf, programWith, Acceptable}
 use Rattle.papers.specs.declared.steps.Step.{Step}
 use Rattle.papers.specs.declared.programs.Program.{Program}
@@ -137,15 +138,22 @@ pub no-plan-is : (m q : ℕ) (z : Line) → z ≡ line noStep 0 0
 unfolding noPlan verdictOf
 no-plan-is m q z h = rw h
 
-module _ (e : Envelope) (c : EnvelopeRead) (g : c ≡ shownEnvelope (checkEnvelope e)) (x : Plan) where
-  pub plan-refused : (m q : ℕ) → c .verdict ≡ Refused m q → x ≡ noPlan m q → x ≡ planOf (checkEnvelope e)
+module _ (o : Outcome Envelope) (c : EnvelopeRead) (g : c ≡ shownEnvelope o) (x : Plan) where
+  pub plan-refused : (m q : ℕ) → c .verdict ≡ Refused m q → x ≡ noPlan m q → x ≡ planOf o
   unfolding planOf
-  plan-refused m q v h = h ∙ rw (read-refused (checkEnvelope e) c m q g v)
+  plan-refused m q v h = h ∙ rw (read-refused o c m q g v)
 
-  pub plan-taken : c .verdict ≡ Taken → x ≡ planFor plainCosts (c .envelope) → x ≡ planOf (checkEnvelope e)
+  pub plan-taken : c .verdict ≡ Taken → x ≡ planFor plainCosts (c .envelope) → x ≡ planOf o
   unfolding planOf
-  plan-taken v h = h ∙ sym (rw (read-taken (checkEnvelope e) c g v))
+  plan-taken v h = h ∙ sym (rw (read-taken o c g v))
 
 pub good-envelope : (e : Envelope) (c : EnvelopeRead) → c ≡ shownEnvelope (checkEnvelope e) → c .verdict ≡ Taken
     → Within (c .envelope) × (tidy (c .envelope) ≡ c .envelope)
 good-envelope e c g v = check-sound e (c .envelope) (nextOf (checkEnvelope e)) (read-taken (checkEnvelope e) c g v) .0
+
+-- ---- the envelope is read first
+
+pub good-paper : (s : List ℕ) → ((i : ℕ) → i < length s → getD s i 0 < 256) → (c : EnvelopeRead) → c ≡ shownEnvelope (readEnvelope s)
+    → c .verdict ≡ Taken → Within (c .envelope) × (tidy (c .envelope) ≡ c .envelope)
+good-paper s b c g v =
+    envelope-exact s (c .envelope) (nextOf (readEnvelope s)) (every-index (λ (x : ℕ). x < 256) 0 s b) .0 (read-taken (readEnvelope s) c g v) .0

@@ -6,7 +6,7 @@ mod division;
 mod drops;
 pub mod estimator;
 mod locals;
-pub mod numbers;
+mod numbers;
 mod order;
 pub mod planner;
 pub mod plans;

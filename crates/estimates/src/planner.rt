@@ -7,7 +7,7 @@ use ground::Verdict;
 use papers::programs::Program;
 ghost use mathlib.Core.Path.{_≡_};
 ghost use Rattle.envelopes.specs.Rules.{Within, tidy};
-ghost use Rattle.envelopes.specs.Envelope.{checkEnvelope};
+ghost use Rattle.envelopes.specs.Envelope.{readEnvelope, checkEnvelope};
 ghost use Rattle.papers.specs.Programs.{programWith};
 ghost use Rattle.estimates.specs.Costs.{plainCosts, assemblyAt};
 ghost use Rattle.estimates.specs.Plan.{siteFor, reduced, planned, planFor, noPlan, planOf};
@@ -102,6 +102,21 @@ pub fn plan(envelope: Envelope) -> Plan
         Verdict::Taken => {
             let checked = read.envelope;
             plan_plainly(checked)
+        }
+    }
+}
+
+// The same from the envelope's bytes.
+pub fn plan_paper(s: &[u8]) -> Plan
+    ensures { λ r. ⌜ r ≡ planOf (readEnvelope (now (s .entry))) ⌝ }
+{
+    let read = envelopes::reading::read_envelope(s);
+    let verdict = read.verdict;
+    match verdict {
+        Verdict::Refused { number, position } => refused(number, position),
+        Verdict::Taken => {
+            let taken = read.envelope;
+            plan_plainly(taken)
         }
     }
 }

@@ -1,5 +1,5 @@
 -- The laws of the listing: its parts put one behind the other are its lines.
-use mathlib.Core.Path.{_≡_, _∙_}
+use mathlib.Core.Path.{_≡_, subst, _∙_}
 use mathlib.Core.List.{List, _++_}
 use Prim.Native.Nat.{ℕ, _≤_}
 use native.Mathlib.Nat.{zero-add}
@@ -66,3 +66,6 @@ module _ (f : Plan) (o t : List ℕ) (r : ℕ) where
   pub listing-refused : (n q : ℕ) → f .verdict ≡ Refused n q → Puts o 0 50 (refusedLine n q) r t → Fronts o 19804 (listing f) r t
   unfolding listing
   listing-refused n q v p = front 50 (refusedLine n q) (omega arith) p (rw v)
+
+pub listed : (p q : Plan) (o t : List ℕ) (r : ℕ) → p ≡ q → Fronts o 19804 (listing p) r t → Fronts o 19804 (listing q) r t
+listed p q o t r e f = subst (λ (x : Plan). Fronts o 19804 (listing x) r t) e f

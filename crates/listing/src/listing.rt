@@ -8,6 +8,8 @@ ghost use Prim.Native.Nat.{_≤_};
 ghost use lib.ListN.{take};
 ghost use Rattle.ground.specs.Lists.{each};
 ghost use Rattle.fields.specs.Puts.{Puts, Fronts};
+ghost use Rattle.envelopes.specs.Envelope.{readEnvelope};
+ghost use Rattle.estimates.specs.Plan.{planOf};
 ghost use Rattle.listing.specs.Listing.{stepText, stepLine, lastLine, planLines, refusedLine, listing};
 
 fn put_step(out: &mut [u8], at: usize, step: Step) -> usize
@@ -86,4 +88,12 @@ pub fn put_listing(out: &mut [u8], plan: Plan) -> usize
         Verdict::Taken => put_plan(out, plan),
         Verdict::Refused { number, position } => put_refusal(out, number, position),
     }
+}
+
+// The same for an envelope's bytes.
+pub fn list_paper(out: &mut [u8], paper: &[u8]) -> usize
+    ensures { λ r. ⌜ Fronts (now (out .entry)) 19804 (listing (planOf (readEnvelope (now (paper .entry))))) r (now (out .exit)) ⌝ }
+{
+    let plan = estimates::planner::plan_paper(paper);
+    put_listing(out, plan)
 }

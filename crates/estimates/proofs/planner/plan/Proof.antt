@@ -1,3 +1,4 @@
+use Rattle.envelopes.specs.Envelope.{checkEnvelope}
 use Rattle.estimates.proofs.PlannerCodeLaws.{good-envelope, plan-refused, plan-taken}
 use borrow.Author.Needs.{needs}
 use Rattle.estimates.proofs.planner.plan.Statement.{statement}
@@ -30,11 +31,11 @@ plan-plainly-requires c κs = good-envelope (c .before .before .before .before .
 
 -- src/planner.rt:96:1
 returns : tie.Need-returns
-returns c = plan-refused (c .before .before .before .before .before .args .envelope) _ (c .before .before .before .before .check-envelope .ensures) _ _ _ (c .before .before .verdict .given .1) (c .refused .ensures)
+returns c = plan-refused (checkEnvelope (c .before .before .before .before .before .args .envelope)) _ (c .before .before .before .before .check-envelope .ensures) _ _ _ (c .before .before .verdict .given .1) (c .refused .ensures)
 
 -- src/planner.rt:96:1
 returns-2 : tie.Need-returns-2
-returns-2 c = plan-taken (c .before .before .before .before .before .args .envelope) _ (c .before .before .before .before .check-envelope .ensures) _ (c .before .before .enum-told .given .1) (c .plan-plainly .ensures)
+returns-2 c = plan-taken (checkEnvelope (c .before .before .before .before .before .args .envelope)) _ (c .before .before .before .before .check-envelope .ensures) _ (c .before .before .enum-told .given .1) (c .plan-plainly .ensures)
 
 pub plan-spec : {M : Type 1} → statement M
 plan-spec =

@@ -1,0 +1,9 @@
+// Plans the envelope on standard input, and prints its listing, or its refusal, on standard output.
+// The longest envelope has 621 bytes: longer input is refused by what comes first in it.
+fn main() {
+    let mut paper = [0u8; 1024];
+    let n = io::read_full(0, &mut paper);
+    let mut out = [0u8; 20480];
+    let length = listing::listing::list_paper(&mut out, &paper[..n]);
+    io::write_all(1, &out[..length]);
+}

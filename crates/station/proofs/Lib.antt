@@ -1,0 +1,13 @@
+-- The laws of the definitions in specs/, file by file under the same names.
+pub mod CountingLaws
+pub mod ReducingLaws
+pub mod MessageLaws
+pub mod EndLaws
+pub mod MessageCodeLaws
+pub mod SemijoinCalls
+pub mod CallLaws
+pub mod OpeningCodeLaws
+pub mod MakingCodeLaws
+pub mod ReceivingCodeLaws
+pub mod RowCodeLaws
+pub mod RowMessageCodeLaws

@@ -1,0 +1,203 @@
+-- What the returns of making a value message cite: 14 and 12, what the values leave of the buffer, and the words in front.
+use mathlib.Core.Path.{_≡_, refl, ap, sym, _∙_}
+use mathlib.Core.Logic.{_≢_}
+use mathlib.Core.Bool.{Bool, true, false, not, _&&_, _||_, false≢true}
+use mathlib.Core.List.{List, [], _∷_}
+use Prim.Native.Nat.{ℕ, suc, _+_, _≤_, _<_}
+use native.Mathlib.Omega.{arith}
+use lib.ListN.{length, getD, set}
+use lib.Seq.{sets, length-sets, set-comm}
+use lib.Dec.{ltb}
+use borrow.Author.Tests.{ltb-true, lt-ltb, le-ltb, not-false}
+use Rattle.ground.specs.Outcome.{Outcome, next}
+use Rattle.ground.specs.Outcome.Outcome.{good, bad}
+use Rattle.ground.specs.Refusing.{Test, test, judged}
+use Rattle.ground.specs.declared.Verdict.{Verdict}
+use Rattle.ground.specs.declared.Verdict.the-variants as v
+use Rattle.ground.proofs.TestLaws.{and-left}
+use Rattle.fields.specs.Refusals.{tooShort, waiting, notOurs}
+use Rattle.envelopes.specs.Sites.{isAt}
+use Rattle.envelopes.specs.declared.envelope.Envelope.{Envelope}
+use Rattle.papers.specs.Steps.{isPlace}
+use Rattle.papers.specs.Checks.{shownPapers}
+use Rattle.papers.specs.declared.steps.Step.{Step}
+use Rattle.papers.specs.declared.programs.Program.{Program}
+use Rattle.papers.specs.declared.checks.Papers.{Papers}
+use Rattle.papers.specs.declared.checks.PapersRead.{PapersRead}
+use Rattle.semijoin.specs.Shape.{judgement}
+use Rattle.semijoin.specs.Values.{risingValues, valuesOutcome, gatheredOf, gatheredIn}
+use Rattle.semijoin.specs.declared.values.Gathered.{Gathered}
+use Rattle.semijoin.specs.declared.values.Gathered.the-variants as g
+use Rattle.semijoin.proofs.ShapeLaws.{shaped-shape}
+use Rattle.semijoin.proofs.JudgedLaws.{judge-refused, judge-passed, judge-taken}
+use Rattle.semijoin.proofs.PromiseLaws.{promise}
+use Rattle.station.specs.Reducing.{stepCount, stepOf, isMissing, firstMissing, missingOf}
+use Rattle.station.specs.Calls.{leaves}
+use Rattle.station.specs.Ends.{usable, Usable}
+use Rattle.station.specs.Messages.{valueMessage}
+use Rattle.station.specs.Making.{sendTests, fitted, valuesWith, makeValuesOf, shownMade, madeIn}
+use Rattle.station.specs.declared.ends.End.{End}
+use Rattle.station.specs.declared.reducing.Missing.{Missing}
+use Rattle.station.specs.declared.reducing.Missing.the-variants.{First, None}
+use Rattle.station.specs.declared.making.Made.{Made}
+use Rattle.station.specs.declared.making.Made.the-variants.{Length, Refused}
+use Rattle.station.proofs.ReducingLaws.{missing-first, missing-not}
+use Rattle.station.proofs.EndLaws.{step-legal, call-refused, call-with}
+use Rattle.station.proofs.SemijoinCalls.{judge-fail, judge-pass, judge-none, values-short, values-fit}
+
+-- ---- an outcome as the answer and the buffer afterwards
+
+abbrev pub Makes : List ℕ → Outcome (List ℕ) → Made → List ℕ → Type 0
+Makes out o z after = (z ≡ shownMade o) × (after ≡ madeIn out o)
+
+module _ (out : List ℕ) (o : Outcome (List ℕ)) where
+  pub makes-bad : (m p : ℕ) → o ≡ bad m p → Makes out o (Refused m p) out
+  unfolding shownMade leaves
+  makes-bad m p e = (ap shownMade (sym e), ap (madeIn out) (sym e))
+
+  pub makes-good : (w : List ℕ) (n : ℕ) (after : List ℕ) → o ≡ good w (length w) → n ≡ length w → after ≡ sets out 0 w
+      → Makes out o (Length n) after
+  unfolding shownMade leaves
+  makes-good w n after e f k = (rw f (ap shownMade (sym e)), k ∙ ap (madeIn out) (sym e))
+
+  pub makes-same : (o' : Outcome (List ℕ)) → o ≡ o' → (z : Made) (after : List ℕ) → Makes out o' z after → Makes out o z after
+  makes-same o' e z after h = (h .0 ∙ ap shownMade (sym e), h .1 ∙ ap (madeIn out) (sym e))
+
+pub fitted-short : (room : ℕ) (w : List ℕ) → room < length w → fitted room w ≡ bad tooShort 0
+unfolding fitted
+fitted-short room w h = rw (lt-ltb room (length w) h)
+
+pub fitted-fits : (room : ℕ) (w : List ℕ) → length w ≤ room → fitted room w ≡ good w (length w)
+unfolding fitted
+fitted-fits room w h = rw (le-ltb room (length w) h)
+
+-- ---- 14, 12
+
+module _ (p : Program) (applied : List ℕ) (ours : Bool) (r n : ℕ) where
+  abbrev missingTest : Test
+  missingTest = test (isMissing p r (getD applied r 0) n) waiting (firstMissing p r (getD applied r 0) n)
+
+  pub sending-not : not ours ≡ true → v.Refused notOurs 0 ≡ judgement (sendTests p applied ours r n)
+  sending-not t = judge-fail (test (not ours) notOurs 0) (missingTest ∷ []) t
+
+  module _ (s : not ours ≡ false) (k : ℕ) (e : k ≡ getD applied r 0) (x : Missing) (f : x ≡ missingOf p r k n) where
+    found : x ≡ missingOf p r (getD applied r 0) n
+    found = f ∙ ap (λ i. missingOf p r i n) e
+
+    pub sending-waits : (i : ℕ) → x ≡ First i → v.Refused waiting i ≡ judgement (sendTests p applied ours r n)
+    sending-waits i t =
+        let (a, b) = missing-first p r (getD applied r 0) n x found i t in
+        ap (v.Refused waiting) (sym b) ∙ judge-fail missingTest [] a ∙ sym (judge-pass (test (not ours) notOurs 0) (missingTest ∷ []) s)
+
+    pub sending-may : x ≡ None → v.Taken ≡ judgement (sendTests p applied ours r n)
+    sending-may t =
+        judge-none
+        ∙ sym
+        (judge-pass (test (not ours) notOurs 0) (missingTest ∷ []) s
+        ∙ judge-pass missingTest [] (missing-not p r (getD applied r 0) n x found t))
+
+first-passes : (a b : Bool) → (not a || b) ≡ false → a ≡ true
+first-passes true b h = refl
+first-passes false b h = absurd (false≢true (sym h))
+
+-- where that passes the message is ours
+pub sending-ours : (p : Program) (applied : List ℕ) (ours : Bool) (r n : ℕ) (x : Verdict) → x ≡ judgement (sendTests p applied ours r n)
+    → x ≡ v.Taken → ours ≡ true
+sending-ours p applied ours r n x e h = first-passes ours _ (judge-passed (sendTests p applied ours r n) x e h)
+
+-- a step exists, and its right relation is at a site
+module _ (e : Envelope) (p : Program) (site n r k : ℕ) (f : k ≡ stepCount p) where
+  pub sends-none : k ≤ n → false ≡ (ltb n (stepCount p) && isAt e site r)
+  sends-none h = sym (rw (le-ltb n (stepCount p) (omega arith)))
+
+  pub sends-here : n < k → (b : Bool) → b ≡ isAt e site r → b ≡ (ltb n (stepCount p) && isAt e site r)
+  sends-here h b t = t ∙ sym (rw (lt-ltb n (stepCount p) (omega arith)))
+
+-- ---- the words in front, put last
+
+set-sets : (l : List ℕ) (i k a : ℕ) (vs : List ℕ) → i < k → set (sets l k vs) i a ≡ sets (set l i a) k vs
+set-sets l i k a [] h = refl
+set-sets l i k a (x ∷ vs) h =
+    let d : k ≢ i = λ e. omega arith in
+    set-sets (set l k x) i (suc k) a vs (omega arith) ∙ ap (λ (m : List ℕ). sets m (suc k) vs) (set-comm l k i x a d)
+
+front-last : (l : List ℕ) (a b c : ℕ) (vs : List ℕ) → sets (sets l 3 vs) 0 (a ∷ b ∷ c ∷ []) ≡ sets l 0 (a ∷ b ∷ c ∷ vs)
+front-last l a b c vs =
+    ap (λ (m : List ℕ). set (set m 1 b) 2 c) (set-sets l 0 3 a vs (omega arith))
+    ∙ ap (λ (m : List ℕ). set m 2 c) (set-sets (set l 0 a) 1 3 b vs (omega arith))
+    ∙ set-sets (set (set l 0 a) 1 b) 2 3 c vs (omega arith)
+
+-- ---- a value message
+
+module _ (q : Papers) (x : End) (words marks : List ℕ) (n : ℕ) (out : List ℕ) (u : Usable q words (length marks)) (s : Step)
+    (e : s ≡ stepOf (q .program) n) (ours : Bool)
+    (f : ours ≡ (ltb n (stepCount (q .program)) && isAt (q .envelope) (x .site) (s .right .relation))) (w : Verdict)
+    (k : w ≡ judgement (sendTests (q .program) (x .applied) ours (s .right .relation) n)) where
+  abbrev outcome : Outcome (List ℕ)
+  outcome = valuesWith q x words marks n (length out)
+
+  abbrev values : List ℕ
+  values = risingValues (q .envelope) words marks (s .right)
+
+  whole : outcome
+      ≡ judged (sendTests (q .program) (x .applied) ours (s .right .relation) n) (fitted (length out) (valueMessage (x .run) n values))
+  unfolding valuesWith
+  whole = rw (f, e)
+
+  pub values-waits : (m p : ℕ) → w ≡ v.Refused m p → Makes out outcome (Refused m p) out
+  values-waits m p h =
+      makes-bad out outcome m p (whole ∙ judge-refused (sendTests (q .program) (x .applied) ours (s .right .relation) n) w k _ m p h)
+
+  module _ (h : w ≡ v.Taken) where
+    sendable : outcome ≡ fitted (length out) (valueMessage (x .run) n values)
+    sendable = whole ∙ judge-taken (sendTests (q .program) (x .applied) ours (s .right .relation) n) w k _ h
+
+    place : isPlace (q .envelope) (s .right) ≡ true
+    place =
+        let t : n < stepCount (q .program) =
+        ltb-true _ _ (and-left _ _ (sym f ∙ sending-ours (q .program) (x .applied) ours (s .right .relation) n w k h)) in
+        rw e (step-legal q (u .papers) n t .right)
+
+    module _ (y : Gathered) (after : List ℕ) (a : y ≡ gatheredOf (valuesOutcome (q .envelope) (s .right) words marks 3 out))
+        (b : after ≡ gatheredIn 3 out (valuesOutcome (q .envelope) (s .right) words marks 3 out)) where
+      pub values-none : (m p : ℕ) → y ≡ g.Refused m p → Makes out outcome (Refused m p) after
+      unfolding valueMessage
+      values-none m p t =
+          let (short, i, j, d) = values-short (q .envelope) words (u .shape) marks (u .room) (s .right) place 3 out y after a b m p t in
+          rw (i, j, d)
+          (makes-bad out outcome tooShort 0 (sendable ∙ fitted-short (length out) (x .run ∷ n ∷ length values ∷ values) (omega arith)))
+
+      module _ (i : ℕ) (t : y ≡ g.Length i) where
+        fit : (3 + length values ≤ length out) × (i ≡ length values) × (after ≡ sets out 3 values)
+        fit = values-fit (q .envelope) words (u .shape) marks (u .room) (s .right) place 3 out y after a b i t
+
+        pub values-few : i ≤ 4096
+        values-few =
+            omega (
+              arith,
+              fit .1,
+              promise (q .envelope) .no-more words marks (s .right),
+              shaped-shape (q .envelope) words (u .shape) .few (s .right .relation),
+            )
+
+        pub values-room : 3 ≤ length after
+        values-room = omega (arith, fit .0, ap (λ (l : List ℕ). length l) (fit .2) ∙ length-sets out 3 values)
+
+        pub values-made : (last : List ℕ) → last ≡ sets after 0 (x .run ∷ n ∷ i ∷ []) → Makes out outcome (Length (3 + i)) last
+        unfolding valueMessage
+        values-made last l =
+            makes-good out outcome (x .run ∷ n ∷ length values ∷ values) (3 + i) last
+            (sendable ∙ fitted-fits (length out) (x .run ∷ n ∷ length values ∷ values) (omega (arith, fit .0)))
+            (omega (arith, fit .1))
+            (l ∙ rw (fit .1, fit .2) (front-last out (x .run) n (length values) values))
+
+module _ (x : End) (words marks : List ℕ) (n : ℕ) (out : List ℕ) (c : PapersRead) (k : c ≡ shownPapers (usable x words (length marks))) where
+  pub make-refused : (m u : ℕ) → c .verdict ≡ v.Refused m u → Makes out (makeValuesOf x words marks n (length out)) (Refused m u) out
+  unfolding makeValuesOf
+  make-refused m u h = makes-bad out _ m u (call-refused (λ q. valuesWith q x words marks n (length out)) x words (length marks) c k m u h)
+
+  pub make-with : c .verdict ≡ v.Taken → (z : Made) (after : List ℕ) → Makes out (valuesWith (c .papers) x words marks n (length out)) z after
+      → Makes out (makeValuesOf x words marks n (length out)) z after
+  unfolding makeValuesOf
+  make-with h z after m =
+      makes-same out _ _ (call-with (λ q. valuesWith q x words marks n (length out)) x words (length marks) c k h) z after m

@@ -1,0 +1,167 @@
+-- What the returns of making a row message cite.
+use mathlib.Core.Path.{_≡_, refl, ap, sym, _∙_, fun-ext}
+use mathlib.Core.Bool.{Bool, true, false}
+use mathlib.Core.List.{List, [], _∷_, _++_, map}
+use Prim.Native.Nat.{ℕ, _+_, _*_, _≤_, _<_, min}
+use native.Mathlib.Nat.{mul-le-mul}
+use native.Mathlib.Omega.{arith}
+use lib.ListN.{length, getD, take}
+use lib.Seq.{sets, length-sets}
+use Rattle.ground.specs.Lists.{filter, below, each}
+use Rattle.ground.specs.Outcome.{Outcome}
+use Rattle.ground.specs.Refusing.{judged}
+use Rattle.ground.specs.declared.Verdict.{Verdict}
+use Rattle.ground.specs.declared.Verdict.the-variants as v
+use Rattle.ground.proofs.ListLaws.{filter-length}
+use Rattle.ground.proofs.NumbersLaws.{below-length}
+use Rattle.ground.proofs.PuttingLaws.{sets-append}
+use Rattle.ground.proofs.CollectingLaws.{padded-take}
+use Rattle.fields.specs.Refusals.{tooShort, notOurs}
+use Rattle.envelopes.specs.Parts.{relationCount, columnsIn}
+use Rattle.envelopes.specs.Sites.{isAt}
+use Rattle.envelopes.specs.Kept.{kept, keptColumns, shownColumns}
+use Rattle.envelopes.specs.declared.envelope.Envelope.{Envelope}
+use Rattle.envelopes.specs.declared.kept.Columns.{Columns}
+use Rattle.envelopes.proofs.SiteLaws.{at-none}
+use Rattle.entries.specs.Places.{place}
+use Rattle.papers.specs.Checks.{shownPapers}
+use Rattle.papers.specs.declared.programs.Program.{Program}
+use Rattle.papers.specs.declared.checks.Papers.{Papers}
+use Rattle.papers.specs.declared.checks.PapersRead.{PapersRead}
+use Rattle.semijoin.specs.Offsets.{countIn, rowCount}
+use Rattle.semijoin.specs.Shape.{shaped, judgement}
+use Rattle.semijoin.specs.Extents.{extentOf, wordOver, keptOver}
+use Rattle.semijoin.specs.Promise.{keptAt}
+use Rattle.semijoin.specs.declared.offsets.Extent.{Extent}
+use Rattle.semijoin.proofs.ShapeLaws.{shaped-shape, columns-most}
+use Rattle.semijoin.proofs.JudgedLaws.{judge-refused, judge-taken}
+use Rattle.station.specs.Reducing.{stepCount}
+use Rattle.station.specs.Ends.{usable, Usable}
+use Rattle.station.specs.Messages.{rowMessage}
+use Rattle.station.specs.Making.{sendTests, fitted, sentRows, rowsWith, makeRowsOf}
+use Rattle.station.specs.declared.ends.End.{End}
+use Rattle.station.specs.declared.making.Made.{Made}
+use Rattle.station.specs.declared.making.Made.the-variants.{Length, Refused}
+use Rattle.station.proofs.EndLaws.{here-below, call-refused, call-with}
+use Rattle.station.proofs.MakingCodeLaws.{Makes, makes-bad, makes-good, makes-same, fitted-short, fitted-fits, sending-ours}
+use Rattle.station.proofs.RowCodeLaws.{chosen, rowWords, message-is, message-long}
+use Rattle.station.proofs.SemijoinCalls.{kept-over, word-over}
+
+-- ---- the message into the buffer
+
+module _ (e : Envelope) (words marks : List ℕ) (r : ℕ) (shape : shaped e words ≡ true) (room : rowCount e words ≤ length marks)
+    (h : r < relationCount e) (run : ℕ) (out : List ℕ) (x : Extent) (a : x ≡ extentOf e words r) (c : Columns)
+    (d : c ≡ shownColumns (keptColumns e r)) (count : ℕ) (f : count ≡ length (filter (keptOver x marks) (below (x .rows)))) where
+  abbrev made : List ℕ
+  made = rowMessage run r (sentRows e words marks r)
+
+  abbrev columns : List ℕ
+  columns = take (c .count) (c .numbers)
+
+  columns-are : columns ≡ keptColumns e r
+  columns-are = ap (λ (k : Columns). take (k .count) (k .numbers)) d ∙ padded-take 8 0 (keptColumns e r)
+
+  few-columns : length (keptColumns e r) ≤ 8
+  unfolding keptColumns
+  few-columns =
+      omega (
+        arith,
+        filter-length (λ k. kept e (place r k)) (below (columnsIn e r)),
+        below-length (columnsIn e r),
+        columns-most e r,
+      )
+
+  chosen-is : filter (keptOver x marks) (below (x .rows)) ≡ chosen e words marks r
+  chosen-is =
+      ap (λ (y : Extent). filter (keptOver y marks) (below (y .rows))) a
+      ∙ ap (λ (p : ℕ → Bool). filter p (below (countIn e words r))) (fun-ext (kept-over e words r marks))
+
+  words-are : (λ i. map (wordOver x words i) columns) ≡ rowWords e words marks r
+  words-are =
+      ap (λ (l : List ℕ). λ i. map (wordOver x words i) l) columns-are
+      ∙ ap (λ (y : Extent). λ i. map (wordOver y words i) (keptColumns e r)) a
+      ∙ fun-ext (λ i. ap (λ (g : ℕ → ℕ). map g (keptColumns e r)) (fun-ext (word-over e words r i)))
+
+  pub message-few : count ≤ 4096
+  message-few =
+      omega (
+        arith,
+        f,
+        ap (λ (l : List ℕ). length l) chosen-is,
+        filter-length (keptAt e words marks r) (below (countIn e words r)),
+        below-length (countIn e words r),
+        shaped-shape e words shape .few r,
+      )
+
+  module _ (width : ℕ) (g : width ≡ min 8 (c .count)) where
+    width-is : width ≡ length (keptColumns e r)
+    width-is = g ∙ ap (λ (k : Columns). min 8 (k .count)) d ∙ omega (arith, few-columns)
+
+    pub message-product : count * width ≤ 32768
+    message-product = let a : width ≤ 8 = omega (arith, few-columns, width-is) in mul-le-mul message-few a
+
+    length-is : length made ≡ 3 + count * width
+    length-is =
+        message-long e words marks r room h run
+        ∙ rw (width-is, f, chosen-is)
+
+    pub message-short : length out < 3 + count * width → Makes out (fitted (length out) made) (Refused tooShort 0) out
+    message-short l = makes-bad out _ tooShort 0 (fitted-short (length out) made (omega (arith, length-is)))
+
+    module _ (l : 3 + count * width ≤ length out) (middle : List ℕ) (m : middle ≡ sets out 0 (run ∷ (256 + r) ∷ count ∷ [])) where
+      pub message-room : 3 + length (filter (keptOver x marks) (below (x .rows))) * length columns ≤ length middle
+      message-room =
+          let s : length columns ≡ width = ap (λ (l : List ℕ). length l) columns-are ∙ sym width-is in
+          let t : length middle ≡ length out = ap (λ (l : List ℕ). length l) m ∙ length-sets out 0 (run ∷ (256 + r) ∷ count ∷ []) in
+          rw (s, ← f, t) l
+
+      pub message-made : (last : List ℕ)
+          → last ≡ sets middle 3 (each (λ i. map (wordOver x words i) columns) (filter (keptOver x marks) (below (x .rows))))
+          → Makes out (fitted (length out) made) (Length (3 + count * width)) last
+      message-made last k =
+          makes-good out (fitted (length out) made) made (3 + count * width) last (fitted-fits (length out) made (omega (arith, length-is)))
+          (sym length-is)
+          (k ∙ rw (m, words-are, chosen-is, f, message-is e words marks r room h run, chosen-is))
+
+-- ---- the call
+
+pub rows-here : (e : Envelope) (site r : ℕ) (p : Program) (applied : List ℕ) (ours : Bool) → ours ≡ isAt e site r → (n : ℕ) (w : Verdict)
+    → w ≡ judgement (sendTests p applied ours r n) → w ≡ v.Taken → r < relationCount e
+rows-here e site r p applied ours f n w k h = here-below e site r (sym f ∙ sending-ours p applied ours r n w k h)
+
+module _ (q : Papers) (x : End) (words marks : List ℕ) (r : ℕ) (out : List ℕ) where
+  abbrev outcome : Outcome (List ℕ)
+  outcome = rowsWith q x words marks r (length out)
+
+  pub rows-nowhere : 7 < r → Makes out outcome (Refused notOurs 0) out
+  unfolding rowsWith
+  rows-nowhere h =
+      let none : isAt (q .envelope) (x .site) r ≡ false =
+      sym (at-none (q .envelope) r (x .site) (min 8 (q .envelope .«relation_count»)) refl (omega arith)) in
+      makes-bad out outcome notOurs 0 (rw none)
+
+  module _ (ours : Bool) (f : ours ≡ isAt (q .envelope) (x .site) r) (n : ℕ) (g : n ≡ stepCount (q .program)) (w : Verdict)
+      (k : w ≡ judgement (sendTests (q .program) (x .applied) ours r n)) where
+    whole : outcome
+        ≡ judged (sendTests (q .program) (x .applied) ours r n) (fitted (length out) (rowMessage (x .run) r (sentRows (q .envelope) words marks r)))
+    unfolding rowsWith
+    whole = rw (f, g)
+
+    pub rows-wait : (m p : ℕ) → w ≡ v.Refused m p → Makes out outcome (Refused m p) out
+    rows-wait m p h = makes-bad out outcome m p (whole ∙ judge-refused (sendTests (q .program) (x .applied) ours r n) w k _ m p h)
+
+    pub rows-made : w ≡ v.Taken → (z : Made) (after : List ℕ)
+        → Makes out (fitted (length out) (rowMessage (x .run) r (sentRows (q .envelope) words marks r))) z after → Makes out outcome z after
+    rows-made h z after m =
+        makes-same out outcome _ (whole ∙ judge-taken (sendTests (q .program) (x .applied) ours r n) w k _ h) z after m
+
+module _ (x : End) (words marks : List ℕ) (r : ℕ) (out : List ℕ) (c : PapersRead) (k : c ≡ shownPapers (usable x words (length marks))) where
+  pub make-rows-refused : (m u : ℕ) → c .verdict ≡ v.Refused m u → Makes out (makeRowsOf x words marks r (length out)) (Refused m u) out
+  unfolding makeRowsOf
+  make-rows-refused m u h = makes-bad out _ m u (call-refused (λ q. rowsWith q x words marks r (length out)) x words (length marks) c k m u h)
+
+  pub make-rows-with : c .verdict ≡ v.Taken → (z : Made) (after : List ℕ) → Makes out (rowsWith (c .papers) x words marks r (length out)) z after
+      → Makes out (makeRowsOf x words marks r (length out)) z after
+  unfolding makeRowsOf
+  make-rows-with h z after m =
+      makes-same out _ _ (call-with (λ q. rowsWith q x words marks r (length out)) x words (length marks) c k h) z after m

@@ -1,0 +1,48 @@
+use Rattle.station.proofs.MakingCodeLaws.{sending-not, sending-waits, sending-may}
+use borrow.Author.Needs.{needs}
+use Rattle.station.proofs.making.judge_sending.Statement.{statement}
+use Rattle.station.proofs.making.judge_sending.Tie as tie
+use Rattle.station.proofs.making.judge_sending.Reads as reads
+use Rattle.station.proofs.making.judge_sending.Lts as lts
+use Rattle.station.proofs.ends.applied_of.Reads as applied-of-reads
+use Rattle.station.proofs.reducing.first_missing.Reads as first-missing-reads
+
+-- src/making.rt:37:9
+returns : tie.Need-returns
+returns c = search (sending-not, sending-waits, sending-may, needs)
+
+-- src/making.rt:42:9
+applied-of-requires : tie.Need-applied-of-requires
+applied-of-requires c κs = search needs
+
+-- src/making.rt:43:9
+first-missing-requires : tie.Need-first-missing-requires
+first-missing-requires c κs = search needs
+
+-- src/making.rt:45:24
+enum-known-missing : tie.Need-enum-known-missing
+enum-known-missing c = search needs
+
+-- src/making.rt:49:26
+enum-told : tie.Need-enum-told
+enum-told c = search needs
+
+-- src/making.rt:27:1
+returns-2 : tie.Need-returns-2
+returns-2 c = search (sending-not, sending-waits, sending-may, needs)
+
+-- src/making.rt:27:1
+returns-3 : tie.Need-returns-3
+returns-3 c = search (sending-not, sending-waits, sending-may, needs)
+
+pub judge-sending-spec : {M : Type 1} → statement M
+judge-sending-spec =
+    tie.close
+    (tie.spec
+    returns
+    applied-of-requires
+    first-missing-requires
+    enum-known-missing
+    enum-told
+    returns-2
+    returns-3)

@@ -1,0 +1,32 @@
+use Rattle.station.proofs.MakingCodeLaws.{sends-none, sends-here}
+use borrow.Author.Needs.{needs}
+use Rattle.station.proofs.making.sends_step.Statement.{statement}
+use Rattle.station.proofs.making.sends_step.Tie as tie
+use Rattle.station.proofs.making.sends_step.Reads as reads
+use Rattle.station.proofs.making.sends_step.Lts as lts
+use Rattle.station.proofs.ends.is_here.Reads as is-here-reads
+use Rattle.station.proofs.reducing.step_count.Reads as step-count-reads
+
+-- src/making.rt:57:8
+step-count-requires : tie.Need-step-count-requires
+step-count-requires c κs = search needs
+
+-- src/making.rt:57:8
+cast-if1 : tie.Need-cast-if1
+cast-if1 c = search needs
+
+-- src/making.rt:58:9
+returns : tie.Need-returns
+returns c = search (sends-none, needs)
+
+-- src/making.rt:60:5
+is-here-requires : tie.Need-is-here-requires
+is-here-requires c κs = search needs
+
+-- src/making.rt:54:1
+returns-2 : tie.Need-returns-2
+returns-2 c = search (sends-here, needs)
+
+pub sends-step-spec : {M : Type 1} → statement M
+sends-step-spec =
+    tie.close (tie.spec step-count-requires cast-if1 returns is-here-requires returns-2)

@@ -1,0 +1,21 @@
+use Rattle.station.proofs.ReceivingCodeLaws.{arrived-is}
+use borrow.Author.Needs.{needs}
+use Rattle.station.proofs.receiving.with_arrived.Statement.{statement}
+use Rattle.station.proofs.receiving.with_arrived.Tie as tie
+use Rattle.station.proofs.receiving.with_arrived.Reads as reads
+use Rattle.station.proofs.receiving.with_arrived.Lts as lts
+
+-- src/receiving.rt:80:5
+array-write-arrived : tie.Need-array-write-arrived
+array-write-arrived c = search needs
+
+-- src/receiving.rt:88:15
+add-t8 : tie.Need-add-t8
+add-t8 c = search needs
+
+-- src/receiving.rt:72:1
+returns : tie.Need-returns
+returns c = arrived-is _ _ _
+
+pub with-arrived-spec : {M : Type 1} → statement M
+with-arrived-spec = tie.close (tie.spec array-write-arrived add-t8 returns)

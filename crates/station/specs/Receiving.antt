@@ -1,0 +1,121 @@
+-- "The receiver applies a relation's steps in program order and stores 0 at each row removed." "The assembly site appends the
+-- first row message of each relation, whole, to a lent store, also for its own relations." "Receiving: 10, 11 (marks), 1, 13, 14,
+-- 15, 16 or 17, 11 (store, exactly when the message doesn't fit behind those held)."
+use Prim.Native.Nat.{ℕ, _+_}
+use mathlib.Core.Bool.{Bool, true, not}
+use mathlib.Core.List.{List, [], _∷_}
+use lib.ListN.{length, getD, set}
+use lib.Seq.{sets}
+use lib.Dec.{eqb, ltb}
+use Rattle.ground.specs.Outcome.{Outcome, next, verdictOf}
+use Rattle.ground.specs.Outcome.Outcome.{good, bad}
+use Rattle.ground.specs.declared.Verdict.the-variants.{Refused}
+use Rattle.ground.specs.Refusing.{test, judged}
+use Rattle.fields.specs.Refusals.{endsInside, tooShort, otherRun, notOurs, notSound, alreadyTaken, stepMissing}
+use Rattle.envelopes.specs.Parts.{relationCount}
+use Rattle.envelopes.specs.Sites.{isAt}
+use Rattle.envelopes.specs.Kept.{keptColumns}
+use Rattle.papers.specs.declared.steps.Step.{Step}
+use Rattle.papers.specs.declared.checks.Papers.{Papers}
+use Rattle.semijoin.specs.Marks.{reducedBy}
+use Rattle.station.specs.Reducing.{stepCount, stepOf, placeOf}
+use Rattle.station.specs.Calls.{leaves}
+use Rattle.station.specs.Ends.{Marked, appliedOf, hasArrived, usable}
+use Rattle.station.specs.Messages.{runOf, markOf, bodyOf, aboutOf, counted, soundValues}
+use Rattle.station.specs.declared.messages.About.{About}
+use Rattle.station.specs.declared.messages.About.the-variants as about
+use Rattle.station.specs.declared.ends.End.{End}
+use Rattle.station.specs.declared.receiving.Received.{Received}
+
+-- an end and its store; an end, its marks and its store
+pub record Stored : Type 0 where
+  pub end : End
+  pub store : List ℕ
+
+pub record Held : Type 0 where
+  pub end : End
+  pub marks : List ℕ
+  pub store : List ℕ
+
+-- so many steps of a relation applied; one more; the row message of a relation arrived, of so many words
+unfoldable pub appliedTo : End → ℕ → ℕ → End
+appliedTo x r n =
+    record {
+      envelope = x .envelope;
+      program = x .program;
+      site = x .site;
+      run = x .run;
+      applied = set (x .applied) r n;
+      arrived = x .arrived;
+      used = x .used;
+    }
+
+unfoldable pub withApplied : End → ℕ → End
+withApplied x r = appliedTo x r (appliedOf x r + 1)
+
+unfoldable pub withArrived : End → ℕ → ℕ → End
+withArrived x r words =
+    record {
+      envelope = x .envelope;
+      program = x .program;
+      site = x .site;
+      run = x .run;
+      applied = x .applied;
+      arrived = set (x .arrived) r true;
+      used = x .used + words;
+    }
+
+-- the values of step n
+unfoldable pub valuesTaken : Papers → End → List ℕ → List ℕ → List ℕ → ℕ → Outcome Marked
+valuesTaken q x words marks m n =
+    let a = stepOf (q .program) n .left in
+    let place = placeOf (q .program) (a .relation) n in
+    judged
+    (test (not (isAt (q .envelope) (x .site) (a .relation))) notOurs 0
+    ∷ test (not (soundValues m)) notSound 0
+    ∷ test (ltb place (appliedOf x (a .relation))) alreadyTaken 0
+    ∷ test (ltb (appliedOf x (a .relation)) place) stepMissing 0
+    ∷ [])
+    (good (record { end = withApplied x (a .relation); marks = reducedBy (q .envelope) words (bodyOf m) a marks }) 0)
+
+-- the rows of relation r
+unfoldable pub rowsTaken : Papers → End → List ℕ → List ℕ → ℕ → Outcome Stored
+rowsTaken q x store m r =
+    judged
+    (test (not (eqb (x .site) (q .program .site))) notOurs 0
+    ∷ test (not (counted (length (keptColumns (q .envelope) r)) m)) notSound 0
+    ∷ test (hasArrived x r) alreadyTaken 0
+    ∷ test (ltb (length store) (x .used + length m)) tooShort 0
+    ∷ [])
+    (good (record { end = withArrived x r (length m); store = sets store (x .used) m }) 0)
+
+-- by what the second word speaks of
+unfoldable pub taken : Papers → End → List ℕ → List ℕ → List ℕ → List ℕ → About → Outcome Held
+taken q x words marks store m (about.Step n) =
+    next (valuesTaken q x words marks m n) (λ s p. good (record { end = s .end; marks = s .marks; store = store }) p)
+taken q x words marks store m (about.Rows r) =
+    next (rowsTaken q x store m r) (λ s p. good (record { end = s .end; marks = marks; store = s .store }) p)
+taken q x words marks store m about.Nothing = bad notOurs 0
+
+unfoldable pub receiveWith : Papers → End → List ℕ → List ℕ → List ℕ → List ℕ → Outcome Held
+receiveWith q x words marks store m =
+    judged
+    (test (ltb (length m) 3) endsInside 0 ∷ test (not (eqb (runOf m) (x .run))) otherRun 0 ∷ [])
+    (taken q x words marks store m (aboutOf (stepCount (q .program)) (relationCount (q .envelope)) (markOf m)))
+
+unfoldable pub receiveOf : End → List ℕ → List ℕ → List ℕ → List ℕ → Outcome Held
+receiveOf x words marks store m = next (usable x words (length marks)) (λ q _. receiveWith q x words marks store m)
+
+-- a refusal hands back the end that came in
+abbrev pub refusedBy : End → ℕ → ℕ → Received
+refusedBy x n p = record { verdict = Refused n p; end = x }
+
+-- what the function answers, by where an outcome has its end; what was lent, afterwards
+unfoldable pub shownReceived : {A : Type 0} → (A → End) → End → Outcome A → Received
+shownReceived end x o = record { verdict = verdictOf o; end = leaves end x o }
+
+abbrev pub receivedMarks : List ℕ → Outcome Held → List ℕ
+receivedMarks marks o = leaves (λ (h : Held). h .marks) marks o
+
+abbrev pub receivedStore : List ℕ → Outcome Held → List ℕ
+receivedStore store o = leaves (λ (h : Held). h .store) store o

@@ -1,0 +1,245 @@
+// Receiving messages: the values of a step reduce its left relation; the rows of a relation go to the store.
+use crate::ends::End;
+use crate::messages::About;
+use fields::refusals;
+use ground::Verdict;
+use papers::checks::Papers;
+use semijoin::marks::Reduced;
+ghost use mathlib.Core.Path.{_≡_};
+ghost use mathlib.Core.Bool.{not};
+ghost use Prim.Native.Nat.{_+_, _≤_, _<_};
+ghost use lib.ListN.{length, getD, drop};
+ghost use lib.Seq.{sets};
+ghost use lib.Dec.{ltb};
+ghost use Rattle.ground.specs.Tests.{pick};
+ghost use Rattle.envelopes.specs.Parts.{relationCount};
+ghost use Rattle.semijoin.specs.Rising.{isRising};
+ghost use Rattle.station.specs.Reducing.{stepCount};
+ghost use Rattle.station.specs.Calls.{leaves};
+ghost use Rattle.station.specs.Ends.{Usable, Marked};
+ghost use Rattle.station.specs.Receiving.{
+  Stored,
+  Held,
+  appliedTo,
+  withArrived,
+  valuesTaken,
+  rowsTaken,
+  receiveWith,
+  receiveOf,
+  refusedBy,
+  shownReceived,
+  receivedMarks,
+  receivedStore,
+};
+
+// The end afterwards, with the verdict; where it is refused, the end that came in.
+pub struct Received {
+    pub verdict: Verdict,
+    pub end: End,
+}
+
+fn refused(end: End, number: u8, position: usize) -> Received
+    ensures { λ r. ⌜ r ≡ refusedBy end number position ⌝ }
+{
+    Received {
+        verdict: Verdict::Refused { number, position },
+        end: end,
+    }
+}
+
+// So many steps of a relation applied.
+fn with_applied(end: End, relation: u8, count: u32) -> End
+    requires { ⌜ relation < 8 ⌝ }
+    ensures { λ r. ⌜ r ≡ appliedTo end relation count ⌝ }
+{
+    let envelope = end.envelope;
+    let program = end.program;
+    let mut applied = end.applied;
+    let arrived = end.arrived;
+    applied[relation as usize] = count;
+    End {
+        envelope: envelope,
+        program: program,
+        site: end.site,
+        run: end.run,
+        applied: applied,
+        arrived: arrived,
+        used: end.used,
+    }
+}
+
+// The row message of a relation, of so many words, arrived.
+fn with_arrived(end: End, relation: u8, words: usize) -> End
+    requires { ⌜ (relation < 8) × (end .used + words < 18446744073709551616) ⌝ }
+    ensures { λ r. ⌜ r ≡ withArrived end relation words ⌝ }
+{
+    let envelope = end.envelope;
+    let program = end.program;
+    let applied = end.applied;
+    let mut arrived = end.arrived;
+    arrived[relation as usize] = true;
+    End {
+        envelope: envelope,
+        program: program,
+        site: end.site,
+        run: end.run,
+        applied: applied,
+        arrived: arrived,
+        used: end.used + words,
+    }
+}
+
+// A step that is not the next one of its relation: 15, 16 or 17.
+fn not_next(message: &[u32], place: u32, done: u32) -> u8
+    requires { ⌜ 3 ≤ length (now message) ⌝ }
+    ensures { λ r. ⌜ r ≡ pick (not (isRising (drop 3 (now (message .entry))))) 15 (pick (ltb place done) 16 17) ⌝ }
+{
+    if !semijoin::rising::is_rising(&message[3..]) {
+        return refusals::NOT_SOUND;
+    }
+    if place < done {
+        refusals::ALREADY_TAKEN
+    } else {
+        refusals::STEP_MISSING
+    }
+}
+
+// The values of step n: 14, 15, 16 or 17.
+fn take_values(
+    papers: Papers,
+    end: End,
+    tables: &[u32],
+    marks: &mut [u8],
+    message: &[u32],
+    n: usize,
+) -> Received
+    requires { ⌜ Usable papers (now tables) (length (now marks)) × (n < stepCount (papers .program)) × (3 ≤ length (now message)) ⌝ }
+    ensures { λ r. ⌜ (r ≡ shownReceived (λ (s : Marked). s .end) end (valuesTaken papers end (now (tables .entry)) (now (marks .entry)) (now (message .entry)) n)) × (now (marks .exit) ≡ leaves (λ (s : Marked). s .marks) (now (marks .entry)) (valuesTaken papers end (now (tables .entry)) (now (marks .entry)) (now (message .entry)) n)) ⌝ }
+{
+    let envelope = papers.envelope;
+    let program = papers.program;
+    let applied = end.applied;
+    let step = crate::reducing::step_of(program, n);
+    let left = step.left;
+    if !crate::ends::is_here(envelope, end.site, left.relation) {
+        return refused(end, refusals::NOT_OURS, 0);
+    }
+    if !crate::messages::is_counted(message, 1) {
+        return refused(end, refusals::NOT_SOUND, 0);
+    }
+    let place = crate::reducing::place_of(program, left.relation, n);
+    let done = crate::ends::applied_of(applied, left.relation);
+    if place != done {
+        let number = not_next(message, place, done);
+        return refused(end, number, 0);
+    }
+    let reduced = semijoin::marks::reduce_by(envelope, left, tables, &message[3..], marks);
+    match reduced {
+        Reduced::Refused { number, position } => refused(end, number, position),
+        Reduced::Rows(removed) => {
+            let after = with_applied(end, left.relation, done + 1);
+            Received {
+                verdict: Verdict::Taken,
+                end: after,
+            }
+        }
+    }
+}
+
+// The message behind the words that are held.
+fn append(store: &mut [u32], used: usize, message: &[u32])
+    requires { ⌜ used + length (now message) ≤ length (now store) ⌝ }
+    ensures { λ r. ⌜ now (store .exit) ≡ sets (now (store .entry)) used (now (message .entry)) ⌝ }
+{
+    let mut i: usize = 0;
+    let mut p = used;
+    while i < message.len() {
+        store[p] = message[i];
+        p += 1;
+        i += 1;
+    }
+}
+
+// The rows of a relation: 14, 15, 16, 11.
+fn take_rows(papers: Papers, end: End, store: &mut [u32], message: &[u32], relation: u8) -> Received
+    requires { ⌜ relation < 8 ⌝ }
+    ensures { λ r. ⌜ (r ≡ shownReceived (λ (s : Stored). s .end) end (rowsTaken papers end (now (store .entry)) (now (message .entry)) relation)) × (now (store .exit) ≡ leaves (λ (s : Stored). s .store) (now (store .entry)) (rowsTaken papers end (now (store .entry)) (now (message .entry)) relation)) ⌝ }
+{
+    let envelope = papers.envelope;
+    let program = papers.program;
+    let arrived = end.arrived;
+    let used = end.used;
+    if end.site != program.site as u32 {
+        return refused(end, refusals::NOT_OURS, 0);
+    }
+    let columns = envelopes::kept::kept_columns(envelope, relation);
+    if !crate::messages::is_counted(message, columns.count) {
+        return refused(end, refusals::NOT_SOUND, 0);
+    }
+    if arrived[relation as usize] {
+        return refused(end, refusals::ALREADY_TAKEN, 0);
+    }
+    if store.len() < message.len() {
+        return refused(end, refusals::TOO_SHORT, 0);
+    }
+    if store.len() - message.len() < used {
+        return refused(end, refusals::TOO_SHORT, 0);
+    }
+    append(store, used, message);
+    let after = with_arrived(end, relation, message.len());
+    Received {
+        verdict: Verdict::Taken,
+        end: after,
+    }
+}
+
+// With a usable end: 1, 13, then by what the second word speaks of.
+fn receive_with(
+    papers: Papers,
+    end: End,
+    tables: &[u32],
+    marks: &mut [u8],
+    store: &mut [u32],
+    message: &[u32],
+) -> Received
+    requires { ⌜ Usable papers (now tables) (length (now marks)) ⌝ }
+    ensures { λ r. ⌜ (r ≡ shownReceived (λ (h : Held). h .end) end (receiveWith papers end (now (tables .entry)) (now (marks .entry)) (now (store .entry)) (now (message .entry)))) × (now (marks .exit) ≡ receivedMarks (now (marks .entry)) (receiveWith papers end (now (tables .entry)) (now (marks .entry)) (now (store .entry)) (now (message .entry)))) × (now (store .exit) ≡ receivedStore (now (store .entry)) (receiveWith papers end (now (tables .entry)) (now (marks .entry)) (now (store .entry)) (now (message .entry)))) ⌝ }
+{
+    if message.len() < 3 {
+        return refused(end, refusals::ENDS_INSIDE, 0);
+    }
+    if message[0] != end.run {
+        return refused(end, refusals::OTHER_RUN, 0);
+    }
+    let envelope = papers.envelope;
+    let program = papers.program;
+    let steps = crate::reducing::step_count(program);
+    let relations = ground::used::in_use(8, envelope.relation_count);
+    let about = crate::messages::speaks_of(steps, relations as u8, message[1]);
+    match about {
+        About::Nothing => refused(end, refusals::NOT_OURS, 0),
+        About::Step(n) => take_values(papers, end, tables, marks, message, n),
+        About::Rows(relation) => take_rows(papers, end, store, message, relation),
+    }
+}
+
+// A message: the end's papers and counts, 10, 11 (marks), 1, 13, 14, 15, 16 or 17, 11 (store).
+pub fn receive(
+    end: End,
+    tables: &[u32],
+    marks: &mut [u8],
+    store: &mut [u32],
+    message: &[u32],
+) -> Received
+    ensures { λ r. ⌜ (r ≡ shownReceived (λ (h : Held). h .end) end (receiveOf end (now (tables .entry)) (now (marks .entry)) (now (store .entry)) (now (message .entry)))) × (now (marks .exit) ≡ receivedMarks (now (marks .entry)) (receiveOf end (now (tables .entry)) (now (marks .entry)) (now (store .entry)) (now (message .entry)))) × (now (store .exit) ≡ receivedStore (now (store .entry)) (receiveOf end (now (tables .entry)) (now (marks .entry)) (now (store .entry)) (now (message .entry)))) ⌝ }
+{
+    let read = crate::ends::usable_end(end, tables, marks.len());
+    let verdict = read.verdict;
+    match verdict {
+        Verdict::Refused { number, position } => refused(end, number, position),
+        Verdict::Taken => {
+            let papers = read.papers;
+            receive_with(papers, end, tables, marks, store, message)
+        }
+    }
+}
