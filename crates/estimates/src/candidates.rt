@@ -17,7 +17,7 @@ ghost use Rattle.estimates.specs.Plan.{sameStep};
 ghost use Rattle.estimates.specs.Candidates.{shownSteps};
 
 // Steps in order; the places behind the count hold no step.
-pub struct Steps {
+pub(crate) struct Steps {
     pub count: u8,
     pub all: [Step; 156],
 }

@@ -16,13 +16,13 @@ ghost use Rattle.estimates.specs.Ready.{Ready};
 ghost use Rattle.estimates.specs.Candidates.{shownSteps, shownChoice, Bounded, Shrinks};
 
 // The step of greatest gain, where one gains.
-pub enum Choice {
+pub(crate) enum Choice {
     Chosen(Step),
     Nothing,
 }
 
 // The greedy program and the profile that it leaves.
-pub struct Greedy {
+pub(crate) struct Greedy {
     pub steps: Steps,
     pub profile: Profile,
 }

@@ -1,6 +1,6 @@
 // Estimates and the planner: what a step is expected to do and cost, and which steps to take.
-pub mod candidates;
-pub mod choice;
+mod candidates;
+mod choice;
 pub mod costs;
 mod division;
 mod drops;
