@@ -6,8 +6,8 @@ use Prim.Native.Nat.{ℕ, suc, _+_, _*_, _≤_, _<_}
 use native.Mathlib.Nat.{min-le-left, min-le-right, mul-le-mul-right, le-mul-of-pos-right, suc-mul}
 use native.Mathlib.Omega.{arith}
 use lib.ListN.{length, getD}
-use lib.Dec.{eqb, leb}
-use borrow.Author.Tests.{leb-true, le-leb, eqb-true, eq-eqb}
+use lib.Dec.{eqb, leb, ltb}
+use borrow.Author.Tests.{leb-true, le-leb, ltb-true, eqb-true, eq-eqb}
 use Rattle.ground.specs.Lists.{all, below}
 use Rattle.ground.proofs.TestLaws.{and-left, and-right, and-both}
 use Rattle.ground.proofs.CountLaws.{split}
@@ -18,11 +18,23 @@ use Rattle.entries.specs.Relations.{pastRelation}
 use Rattle.envelopes.specs.Parts.{sizesOf, relationsOf, relationCount, columnsIn}
 use Rattle.envelopes.specs.Rules.{Within, RelationWithin}
 use Rattle.envelopes.specs.declared.envelope.Envelope.{Envelope}
+use Rattle.entries.specs.declared.places.Place.{Place}
+use Rattle.papers.specs.Steps.{isPlace}
 use Rattle.semijoin.specs.Offsets.{countIn, wordsBefore, rowsBefore, firstWord, rowCount, rowsAt}
 use Rattle.semijoin.specs.Shape.{shaped}
 use Rattle.semijoin.proofs.PartLaws.{part-length}
 use Rattle.semijoin.proofs.SumLaws.{sum-most, sum-least}
 use Rattle.semijoin.proofs.OffsetLaws.{count-outside, row-is, words-end}
+
+-- a column of the envelope
+module _ (e : Envelope) (a : Place) (t : isPlace e a ≡ true) where
+  pub place-relation : a .relation < relationCount e
+  unfolding isPlace
+  place-relation = ltb-true _ _ (and-left _ _ t)
+
+  pub place-column : a .column < columnsIn e (a .relation)
+  unfolding isPlace
+  place-column = ltb-true _ _ (and-right (ltb (a .relation) (relationCount e)) _ t)
 
 -- the shape as a statement
 pub record Shape (e : Envelope) (words : List ℕ) : Type 0 where
