@@ -235,7 +235,7 @@ module _ (e : Envelope) (a : Place) (words values marks : List ℕ) where
           unfolding reduceOutcome
           reduce-taken = then-rest e words (length marks) reduceTests (good reduced 0) s h ∙ rw (c, rising-exact values .1 rises)
 
-          pub reduce-rows : (n : ℕ) → reducedOf n (reduceOutcome e a words values marks) ≡ r.Rows n
+          pub reduce-rows : (n : ℕ) → reducedOf n (reduceOutcome e a words values marks) ≡ r.Removed n
           unfolding reducedOf
           reduce-rows n = rw reduce-taken
 

@@ -13,7 +13,6 @@ use lib.Dec.{eqb}
 use borrow.Author.Tests.{le-ltb, eq-eqb, ne-eqb}
 use Rattle.ground.specs.Tests.{pick}
 use Rattle.ground.specs.Lists.{Every, filter, below}
-use Rattle.ground.specs.Outcome.{Outcome, next}
 use Rattle.ground.specs.Outcome.Outcome.{good}
 use Rattle.ground.specs.Refusing.{judged}
 use Rattle.ground.proofs.CountLaws.{split}
@@ -232,14 +231,18 @@ module _ (e : Envelope) (p : Program) (words marks : List ℕ) where
         tidy-program-run e p words marks,
       )
 
+  as-read : (f : Envelope) (r : ℕ) (t : Program) (u : ℕ) → checkEnvelope e ≡ good f r → programAgainst f (programBytes p) ≡ good t u
+      → checkProgram e p ≡ good t u
+  unfolding readProgram checkProgram
+  as-read f r t u check program = rw check program
+
   run-papers : Fits e → ProgramFits p → (after : List ℕ) (q : ℕ) → runOutcome e p words marks ≡ good after q → Within e × Acceptable e p
-  unfolding runOutcome papersOf readProgram checkProgram
+  unfolding runOutcome papersOf
   run-papers fits small after q h =
       let (both, v, papers, _) = next-good (papersOf e p) _ after q h in
       let (f, r, check, rest) = next-good (checkEnvelope e) _ both v papers in
       let (t, u, program, _) = next-good (programAgainst f (programBytes p)) _ both v rest in
-      let taken : checkProgram e p ≡ good t u = ap (λ (o : Outcome Envelope). next o (λ g _. programAgainst g (programBytes p))) check ∙ program in
-      let (within, acceptable, _, _) = check-exact e fits p t u small .0 taken in
+      let (within, acceptable, _, _) = check-exact e fits p t u small .0 (as-read f r t u check program) in
       (within, acceptable)
 
   -- the run is taken exactly then, and its marks are those of the run
