@@ -7,6 +7,7 @@ use mathlib.Core.Logic.{_⊎_, inl, inr}
 use Prim.Native.Nat.{ℕ, suc, _<_, zero-le, suc-le-suc}
 use native.Mathlib.Omega.{arith}
 use lib.ListN.{length, getD, length-map}
+use Rattle.ground.specs.Tests.{pick}
 use Rattle.ground.specs.Lists.{consIf, filter, all, combinations, below}
 use Rattle.ground.proofs.ListLaws.{all-index, filter-map, filter-implied, map-mem, map-alike, getD-map}
 use Rattle.ground.proofs.NumbersLaws.{below-length, below-getD, below-from}
@@ -14,11 +15,23 @@ use Rattle.ground.proofs.CountLaws.{split}
 use Rattle.ground.proofs.CombinationLaws.{combinations-from, combinations-length, combinations-filters, combinations-map}
 use Rattle.envelopes.specs.Parts.{relationCount, clausesOf, targetsOf}
 use Rattle.envelopes.specs.declared.envelope.Envelope.{Envelope}
-use Rattle.papers.specs.Meaning.{Row, Table, meetsAll, targetRow, tablesOf, answerOn, answerRows}
+use Rattle.papers.specs.Meaning.{Row, Table, meetsAll, targetRow, answerOn, answerRows}
 use Rattle.semijoin.specs.Offsets.{countIn, rowsAt, marksAt}
 use Rattle.semijoin.specs.Marks.{isKept, keptOf, keptRows}
-use Rattle.semijoin.specs.Promise.{rowOf, keptAt, SameRows, Needed, Covers}
+use Rattle.semijoin.specs.Promise.{rowOf, keptAt, SameRows, NeededIn, Needed, Covers}
 use Rattle.semijoin.proofs.OffsetLaws.{count-outside, rowsAt-length, tables-are}
+use Rattle.semijoin.proofs.MarkLaws.{kept-test}
+
+-- ---- a list for each number
+
+module _ {A : Type 0} (f : ℕ → List A) (n : ℕ) where
+  pub listed-length : length (map f (below n)) ≡ n
+  listed-length = length-map (below n) f ∙ below-length n
+
+  pub listed-at : (r : ℕ) → r < n → getD (map f (below n)) r [] ≡ f r
+  listed-at r h =
+      let few : r < length (below n) = rw (below-length n) h in
+      getD-map f (below n) r 0 [] few ∙ ap f (below-getD n r 0 h)
 
 -- ---- a table's rows with their marks beside them; a row without one has 0
 
@@ -78,52 +91,52 @@ beside-from {x} (m ∷ ms) (row ∷ t) n = go (List·Memᴰ·cases-cons n) (besi
 
 -- ---- the same combinations meet all clauses
 
-module _ (e : Envelope) (whole : List ℕ) (marks : ℕ → List ℕ)
-    (covers : (r i : ℕ) → i < countIn e whole r → Needed e whole r (rowOf e whole r i) → isKept (getD (marks r) i 0) ≡ true) where
+module _ (e : Envelope) (tables : ℕ → Table) (marks : ℕ → List ℕ)
+    (covers : (r i : ℕ) → i < length (tables r) → NeededIn e (map tables (below (relationCount e))) r (getD (tables r) i [])
+    → isKept (getD (marks r) i 0) ≡ true) where
   abbrev tablesBy : List Table
-  tablesBy = map (λ r. keptOf (marks r) (rowsAt e whole r)) (below (relationCount e))
+  tablesBy = map (λ r. keptOf (marks r) (tables r)) (below (relationCount e))
+
+  abbrev allTables : List Table
+  allTables = map tables (below (relationCount e))
 
   abbrev pairs : ℕ → List Marked
-  pairs r = beside (marks r) (rowsAt e whole r)
+  pairs r = beside (marks r) (tables r)
 
   abbrev paired : List (List Marked)
   paired = map pairs (below (relationCount e))
 
   tables-paired : tablesBy ≡ map (map rowIn) (map (filter isOn) paired)
   tables-paired =
-      map-alike _ (λ r. map rowIn (filter isOn (pairs r))) (below (relationCount e)) (λ r m. kept-beside (marks r) (rowsAt e whole r))
+      map-alike _ (λ r. map rowIn (filter isOn (pairs r))) (below (relationCount e)) (λ r m. kept-beside (marks r) (tables r))
       ∙ sym (ap (map (map rowIn)) (map-map (filter isOn) pairs (below (relationCount e)))
       ∙ map-map (map rowIn) (λ r. filter isOn (pairs r)) (below (relationCount e)))
 
-  plain : map (map rowIn) (combinations paired) ≡ combinations (tablesOf e whole)
+  plain : map (map rowIn) (combinations paired) ≡ combinations allTables
   plain =
       sym (combinations-map rowIn paired)
       ∙ ap combinations
       (map-map (map rowIn) pairs (below (relationCount e))
-      ∙ map-alike _ (rowsAt e whole) (below (relationCount e)) (λ r m. rows-beside (marks r) (rowsAt e whole r))
-      ∙ sym (tables-are e whole))
+      ∙ map-alike _ tables (below (relationCount e)) (λ r m. rows-beside (marks r) (tables r)))
 
   paired-at : (r : ℕ) → r < length paired → getD paired r [] ≡ pairs r
-  paired-at r h =
-      let few : r < length (below (relationCount e)) = rw (length-map (below (relationCount e)) pairs) at h in
-      getD-map pairs (below (relationCount e)) r 0 [] few
-      ∙ ap pairs (below-getD (relationCount e) r 0 (rw (below-length (relationCount e)) at few))
+  paired-at r h = listed-at pairs (relationCount e) r (rw (listed-length pairs (relationCount e)) at h)
 
   -- a combination that meets all clauses has kept rows only
   only-kept : (c : List Marked) → List·Memᴰ c (combinations paired) → meetsAll (clausesOf e) (map rowIn c) ≡ true → all isOn c ≡ true
   only-kept c n met = all-index isOn (marked 0 []) c λ r l.
       let long : r < length paired = rw (combinations-length paired n) at l in
-      let (i, k, w) = beside-from (marks r) (rowsAt e whole r) (rw (paired-at r long) at (combinations-from (marked 0 []) paired r long n)) in
+      let (i, k, w) = beside-from (marks r) (tables r) (rw (paired-at r long) at (combinations-from (marked 0 []) paired r long n)) in
       kept r i l k w
     where
-      kept : (r i : ℕ) → r < length c → i < length (rowsAt e whole r)
-          → getD c r (marked 0 []) ≡ marked (getD (marks r) i 0) (rowOf e whole r i)
+      kept : (r i : ℕ) → r < length c → i < length (tables r)
+          → getD c r (marked 0 []) ≡ marked (getD (marks r) i 0) (getD (tables r) i [])
           → isOn (getD c r (marked 0 [])) ≡ true
       kept r i l k w =
-          let row : getD (map rowIn c) r [] ≡ rowOf e whole r i = getD-map rowIn c r (marked 0 []) [] l ∙ ap rowIn w in
-          ap isOn w ∙ covers r i (rw (rowsAt-length e whole r) at k) (map rowIn c, rw plain at (map-mem (map rowIn) n), met, row)
+          let row : getD (map rowIn c) r [] ≡ getD (tables r) i [] = getD-map rowIn c r (marked 0 []) [] l ∙ ap rowIn w in
+          ap isOn w ∙ covers r i k (map rowIn c, rw plain at (map-mem (map rowIn) n), met, row)
 
-  met-alike : filter (meetsAll (clausesOf e)) (combinations tablesBy) ≡ filter (meetsAll (clausesOf e)) (combinations (tablesOf e whole))
+  met-alike : filter (meetsAll (clausesOf e)) (combinations tablesBy) ≡ filter (meetsAll (clausesOf e)) (combinations allTables)
   met-alike =
       rw (tables-paired, combinations-map rowIn, combinations-filters, filter-map)
       (ap (map (map rowIn))
@@ -131,16 +144,34 @@ module _ (e : Envelope) (whole : List ℕ) (marks : ℕ → List ℕ)
       ∙ sym (filter-map (meetsAll (clausesOf e)) (map rowIn) (combinations paired))
       ∙ ap (filter (meetsAll (clausesOf e))) plain)
 
-  answer-covered : answerOn (clausesOf e) (targetsOf e) tablesBy ≡ answerRows e whole
-  unfolding answerOn answerRows
+  answer-covered : answerOn (clausesOf e) (targetsOf e) tablesBy ≡ answerOn (clausesOf e) (targetsOf e) (map tables (below (relationCount e)))
+  unfolding answerOn
   answer-covered = ap (map (targetRow (targetsOf e))) met-alike
+
+-- ---- rows that pass a test, where every needed row passes, give the same answer
+
+module _ (e : Envelope) (tables : ℕ → Table) (passes : ℕ → Row → Bool)
+    (needed : (r : ℕ) (row : Row) → NeededIn e (map tables (below (relationCount e))) r row → passes r row ≡ true) where
+  abbrev markOf : ℕ → Row → ℕ
+  markOf r row = pick (passes r row) 1 0
+
+  pub answer-filtered : answerOn (clausesOf e) (targetsOf e) (map (λ r. filter (passes r) (tables r)) (below (relationCount e)))
+      ≡ answerOn (clausesOf e) (targetsOf e) (map tables (below (relationCount e)))
+  answer-filtered =
+      ap (answerOn (clausesOf e) (targetsOf e))
+      (map-alike (λ r. filter (passes r) (tables r)) (λ r. keptOf (map (markOf r) (tables r)) (tables r)) (below (relationCount e))
+      (λ r m. sym (kept-test (passes r) (tables r))))
+      ∙ answer-covered e tables (λ r. map (markOf r) (tables r)) λ r i h n.
+      ap isKept
+      (getD-map (markOf r) (tables r) i [] 0 h ∙ ap (λ (b : Bool). pick b 1 0) (needed r (getD (tables r) i []) n))
 
 -- ---- the tables of kept rows, each relation's where its rows and marks are, give the answer on all tables
 
 module _ (e : Envelope) (whole : List ℕ) (words marks : ℕ → List ℕ) (same : (r : ℕ) → r < relationCount e → SameRows e r (words r) whole)
     (covers : (r : ℕ) → r < relationCount e → Covers e whole (words r) (marks r) r) where
-  own-marks : (r i : ℕ) → i < countIn e whole r → Needed e whole r (rowOf e whole r i) → keptAt e (words r) (marks r) r i ≡ true
+  own-marks : (r i : ℕ) → i < length (rowsAt e whole r) → Needed e whole r (rowOf e whole r i) → keptAt e (words r) (marks r) r i ≡ true
   own-marks r i h n =
+      let there : i < countIn e whole r = omega (arith, rowsAt-length e whole r) in
       split (relationCount e) r
       (λ k. let none : countIn e whole r ≡ 0 = count-outside e whole r k in absurd (omega arith))
       (λ k.
@@ -148,9 +179,10 @@ module _ (e : Envelope) (whole : List ℕ) (words marks : ℕ → List ℕ) (sam
       covers r k i l (rw (ap (λ (t : Table). getD t i []) (same r k)) n))
 
   pub delivered : answerOn (clausesOf e) (targetsOf e) (map (λ r. keptRows e (words r) (marks r) r) (below (relationCount e))) ≡ answerRows e whole
-  unfolding keptRows
+  unfolding keptRows answerRows
   delivered =
       ap (answerOn (clausesOf e) (targetsOf e))
       (map-alike (λ r. keptRows e (words r) (marks r) r) (λ r. keptOf (marksAt e (words r) r (marks r)) (rowsAt e whole r)) (below (relationCount e))
       (λ r m. rw (same r (below-from (relationCount e) m))))
-      ∙ answer-covered e whole (λ r. marksAt e (words r) r (marks r)) own-marks
+      ∙ answer-covered e (rowsAt e whole) (λ r. marksAt e (words r) r (marks r)) (λ r i h n. own-marks r i h (rw (tables-are e whole) n))
+      ∙ ap (answerOn (clausesOf e) (targetsOf e)) (sym (tables-are e whole))

@@ -2,7 +2,7 @@
 -- is. The floors above go by these and unfold nothing.
 use mathlib.Core.Path.{_≡_, refl, ap, _∙_}
 use mathlib.Core.Bool.{Bool, true, false, not, _&&_}
-use mathlib.Core.Logic.{_↔_}
+use mathlib.Core.Logic.{_↔_, _⊎_, inl, inr}
 use mathlib.Core.List.{List, [], _∷_, _++_, List·Memᴰ}
 use Prim.Native.Nat.{ℕ, _+_, _≤_, _<_}
 use lib.ListN.{length}
@@ -10,9 +10,10 @@ use lib.Seq.{sets}
 use lib.Dec.{leb}
 use borrow.Author.Tests.{leb-true, le-leb, lt-ltb, le-ltb}
 use Rattle.ground.specs.Rising.{Rises}
-use Rattle.ground.specs.Outcome.{Outcome}
+use Rattle.ground.specs.Outcome.{Outcome, next}
 use Rattle.ground.specs.Outcome.Outcome.{good, bad}
 use Rattle.ground.specs.Refusing.{Test, test, judged}
+use Rattle.ground.proofs.OutcomeLaws.{next-bad}
 use Rattle.ground.proofs.TestLaws.{and-left, and-right, and-both}
 use Rattle.fields.specs.Refusals.{wrongShape, tooShort, notOurs, notSound}
 use Rattle.envelopes.specs.Envelope.{checkEnvelope}
@@ -21,20 +22,26 @@ use Rattle.entries.specs.declared.places.Place.{Place}
 use Rattle.envelopes.specs.declared.envelope.Envelope.{Envelope}
 use Rattle.envelopes.proofs.ExactEnvelope.{check-complete}
 use Rattle.papers.specs.Steps.{isPlace}
+use Rattle.papers.specs.Programs.{Acceptable}
+use Rattle.papers.specs.Checks.{papersOf}
+use Rattle.papers.specs.declared.programs.Program.{Program}
+use Rattle.papers.specs.declared.checks.Papers.{Papers}
 use Rattle.semijoin.specs.Offsets.{countIn, rowCount, rowsAt, marksAt}
 use Rattle.semijoin.specs.Shape.{shaped, marksTests, columnTests}
 use Rattle.semijoin.specs.Rising.{among, isRising}
 use Rattle.semijoin.specs.Marks.{reducedBy, reduceOutcome, reducedOf, marksAfter}
 use Rattle.semijoin.specs.Values.{valuesOf, risingValues, occursIn, roomTest, valuesOutcome, gatheredOf, gatheredIn}
 use Rattle.semijoin.specs.Local.{openedIn, openOutcome}
+use Rattle.semijoin.specs.Run.{runMarks, runChecked, runOutcome}
 use Rattle.semijoin.specs.Extents.{extentOf, rowsOver, marksOver, wordOver, keptOver}
 use Rattle.semijoin.specs.Promise.{wordOf, keptAt}
 use Rattle.semijoin.specs.declared.offsets.Extent.{Extent}
 use Rattle.semijoin.specs.declared.marks.Reduced.the-variants as r
 use Rattle.semijoin.specs.declared.values.Gathered.the-variants as g
-use Rattle.semijoin.proofs.JudgedLaws.{number-listed}
+use Rattle.semijoin.proofs.JudgedLaws.{refusal-listed}
 use Rattle.semijoin.proofs.RisingLaws.{rising-exact}
 use Rattle.semijoin.proofs.PromiseLaws.{promise}
+use Rattle.semijoin.proofs.RunLaws.{run-outcome}
 use Rattle.semijoin.proofs.TidyLaws.{tidy-shaped, tidy-row-count, tidy-opened}
 
 -- ---- the answer and the marks of an outcome that is known
@@ -61,9 +68,26 @@ module _ {A : Type 0} (e : Envelope) (words : List ℕ) (n : ℕ) (ts : List Tes
     pub then-rest : rowCount e words ≤ n → judged (marksTests e words n ++ ts) o ≡ judged ts o
     then-rest h = rw (s, le-ltb n (rowCount e words) h)
 
+-- a call that checks its papers first refuses by their refusal, or by 10 or 11 at 0
+papers-first : {A B : Type 0} (o : Outcome A) (f : A → Envelope) (effect : A → B) (words : List ℕ) (n m q : ℕ)
+    → next o (λ a _. judged (marksTests (f a) words n) (good (effect a) 0)) ≡ bad m q
+    → (o ≡ bad m q) ⊎ (List·Memᴰ m (wrongShape ∷ tooShort ∷ []) × (q ≡ 0))
+papers-first {A} {B} o f effect words n m q h = go (next-bad o _ m q h)
+  where
+    go : (o ≡ bad m q) ⊎ ((a : A) × (p : ℕ) × (o ≡ good a p) × (judged (marksTests (f a) words n) (good (effect a) 0) ≡ bad m q))
+        → (o ≡ bad m q) ⊎ (List·Memᴰ m (wrongShape ∷ tooShort ∷ []) × (q ≡ 0))
+    go (inl k) = inl k
+    go (inr (a, p, _, k)) = inr (refusal-listed (marksTests (f a) words n) (effect a) 0 m q (refl, (refl, tt)) k)
+
 -- ---- opening
 
 module _ (e : Envelope) (words : List ℕ) (here : ℕ → Bool) (marks : List ℕ) where
+  -- it refuses as the envelope's check does, or by 10, 11, at 0
+  pub open-number : (n p : ℕ) → openOutcome e words here marks ≡ bad n p
+      → (checkEnvelope e ≡ bad n p) ⊎ (List·Memᴰ n (wrongShape ∷ tooShort ∷ []) × (p ≡ 0))
+  unfolding openOutcome
+  open-number n p h = papers-first (checkEnvelope e) (λ f. f) (λ f. openedIn f words here marks) words (length marks) n p h
+
   pub open-bad : (n p : ℕ) → checkEnvelope e ≡ bad n p → openOutcome e words here marks ≡ bad n p
   unfolding openOutcome
   open-bad n p h = rw h
@@ -94,11 +118,12 @@ module _ (e : Envelope) (a : Place) (words marks : List ℕ) (start : ℕ) (out 
   abbrev valuesTests : List Test
   valuesTests = test (not (isPlace e a)) notOurs 0 ∷ roomTest (risingValues e words marks a) start out ∷ []
 
-  -- its number is one of 10, 11, 14
+  -- it refuses by 10, 11, 14, at 0
   pub values-number : (n p : ℕ) → valuesOutcome e a words marks start out ≡ bad n p
-      → List·Memᴰ n (wrongShape ∷ tooShort ∷ notOurs ∷ tooShort ∷ [])
+      → List·Memᴰ n (wrongShape ∷ tooShort ∷ notOurs ∷ tooShort ∷ []) × (p ≡ 0)
   unfolding valuesOutcome
-  values-number n p h = number-listed (columnTests e a words (length marks) ++ roomTest found start out ∷ []) found 0 n p h
+  values-number n p h =
+      refusal-listed (columnTests e a words (length marks) ++ roomTest found start out ∷ []) found 0 n p (refl, (refl, (refl, (refl, tt)))) h
 
   pub values-shapeless : shaped e words ≡ false → valuesOutcome e a words marks start out ≡ bad wrongShape 0
   unfolding valuesOutcome
@@ -178,12 +203,13 @@ module _ (e : Envelope) (a : Place) (words values marks : List ℕ) where
   abbrev reduceTests : List Test
   reduceTests = test (not (isPlace e a)) notOurs 0 ∷ test (not (isRising values)) notSound 0 ∷ []
 
-  -- its number is one of 10, 11, 14, 15
+  -- it refuses by 10, 11, 14, 15, at 0
   pub reduce-number : (n p : ℕ) → reduceOutcome e a words values marks ≡ bad n p
-      → List·Memᴰ n (wrongShape ∷ tooShort ∷ notOurs ∷ notSound ∷ [])
+      → List·Memᴰ n (wrongShape ∷ tooShort ∷ notOurs ∷ notSound ∷ []) × (p ≡ 0)
   unfolding reduceOutcome
   reduce-number n p h =
-      number-listed (columnTests e a words (length marks) ++ test (not (isRising values)) notSound 0 ∷ []) reduced 0 n p h
+      refusal-listed (columnTests e a words (length marks) ++ test (not (isRising values)) notSound 0 ∷ []) reduced 0 n p
+      (refl, (refl, (refl, (refl, tt)))) h
 
   pub reduce-shapeless : shaped e words ≡ false → reduceOutcome e a words values marks ≡ bad wrongShape 0
   unfolding reduceOutcome
@@ -209,7 +235,7 @@ module _ (e : Envelope) (a : Place) (words values marks : List ℕ) where
           unfolding reduceOutcome
           reduce-taken = then-rest e words (length marks) reduceTests (good reduced 0) s h ∙ rw (c, rising-exact values .1 rises)
 
-          pub reduce-rows : (n : ℕ) → reducedOf n (reduceOutcome e a words values marks) ≡ r.Rows n
+          pub reduce-rows : (n : ℕ) → reducedOf n (reduceOutcome e a words values marks) ≡ r.Removed n
           unfolding reducedOf
           reduce-rows n = rw reduce-taken
 
@@ -226,6 +252,35 @@ module _ (e : Envelope) (a : Place) (words values marks : List ℕ) where
     pub reduce-stay : marksAfter marks (reduceOutcome e a words values marks) ≡ marks
     unfolding marksAfter
     reduce-stay = rw h
+
+-- ---- the one-place run
+
+module _ (e : Envelope) (p : Program) (words marks : List ℕ) where
+  -- it refuses as the papers' check does, or by 10, 11, at 0
+  pub run-number : (n q : ℕ) → runOutcome e p words marks ≡ bad n q
+      → (papersOf e p ≡ bad n q) ⊎ (List·Memᴰ n (wrongShape ∷ tooShort ∷ []) × (q ≡ 0))
+  unfolding runOutcome runChecked
+  run-number n q h =
+      papers-first (papersOf e p) (λ (x : Papers). x .envelope) (λ (x : Papers). runMarks (x .envelope) (x .program) words marks)
+      words (length marks) n q h
+
+  pub run-bad : (n q : ℕ) → papersOf e p ≡ bad n q → runOutcome e p words marks ≡ bad n q
+  unfolding runOutcome
+  run-bad n q h = rw h
+
+  module _ (within : Within e) (acceptable : Acceptable e p) where
+    abbrev ran : List ℕ
+    ran = runMarks e p words marks
+
+    pub run-shapeless : shaped e words ≡ false → runOutcome e p words marks ≡ bad wrongShape 0
+    run-shapeless s = run-outcome e p words marks within acceptable ∙ first-shape e words (length marks) [] (good ran 0) s
+
+    module _ (s : shaped e words ≡ true) where
+      pub run-unmarked : length marks < rowCount e words → runOutcome e p words marks ≡ bad tooShort 0
+      run-unmarked h = run-outcome e p words marks within acceptable ∙ then-marks e words (length marks) [] (good ran 0) s h
+
+      pub run-taken : rowCount e words ≤ length marks → runOutcome e p words marks ≡ good (runMarks e p words marks) 0
+      run-taken h = run-outcome e p words marks within acceptable ∙ then-rest e words (length marks) [] (good ran 0) s h
 
 -- an empty list of values removes every row
 pub none-left : (e : Envelope) (a : Place) (words marks : List ℕ) (i : ℕ) → keptAt e words (reducedBy e words [] a marks) (a .relation) i ≡ false

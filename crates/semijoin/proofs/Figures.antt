@@ -24,6 +24,7 @@ use Rattle.papers.specs.Paths.{edges, onPath}
 use Rattle.papers.specs.Steps.{step, isPlace, legalBy, stepBytes}
 use Rattle.papers.specs.Implied.{constantsOf, selectionsBy, equalitiesBy}
 use Rattle.papers.specs.Programs.{stepsOf, programWith, stepAt, endedProgram, stepsThen, programBy, readProgram, programBytes, checkProgram}
+use Rattle.papers.specs.Checks.{papersOf}
 use Rattle.papers.specs.Meaning.{Row, rowsIn, tablesIn, tablesOf, meetsAll, answerOn, answerRows, answerWords}
 use Rattle.semijoin.specs.Offsets.{countIn, wordsBefore, rowsBefore, firstWord, rowsAt, marksAt}
 use Rattle.semijoin.specs.Shape.{shaped}
@@ -86,6 +87,8 @@ figures =
     ∷ figure (reducedBy onDate couponWeigh (20 ∷ 22 ∷ []) (place 0 1) allKept) (1 ∷ 1 ∷ 0 ∷ 1 ∷ 1 ∷ 1 ∷ 1 ∷ 9 ∷ [])
     ∷ figure (stepped onDate couponWeigh (step (place 0 1) (place 1 1)) allKept) (1 ∷ 1 ∷ 0 ∷ 1 ∷ 1 ∷ 1 ∷ 1 ∷ 9 ∷ [])
     ∷ figure (words (keptRows onDate couponWeigh (stepped onDate couponWeigh (step (place 0 1) (place 1 1)) allKept) 0)) (11 ∷ 20 ∷ 12 ∷ 20 ∷ [])
+    -- WEIGH reduced by COUPON on number keeps its first three rows: equal rows both survive
+    ∷ figure (stepped onNumber couponWeigh (step (place 1 0) (place 0 0)) allKept) (1 ∷ 1 ∷ 1 ∷ 1 ∷ 1 ∷ 1 ∷ 0 ∷ 9 ∷ [])
     -- both envelopes are taken, each of 72 bytes; the whole run, with its refusals, of that one step
     ∷ figure (nextOf (checkEnvelope onNumber) ∷ nextOf (checkEnvelope onDate) ∷ []) (72 ∷ 72 ∷ [])
     ∷ figure (marksAfter bytes (runOutcome onDate (programWith 1 (step (place 0 1) (place 1 1) ∷ [])) couponWeigh bytes)) (1 ∷ 1 ∷ 0 ∷ 1 ∷ 1 ∷ 1 ∷ 1 ∷ 9 ∷ [])
@@ -95,5 +98,5 @@ figures =
     ∷ []
 
 pub figures-hold : map (λ (f : Figure). f .got) figures ≡ map (λ (f : Figure). f .want) figures
-unfolding numbered padded numbersFrom littleEnd bytesOf firstFrom insert rising numberAt numberThat marked markOf versionAt headOf samePlace placeAt placeBytes columnsOf columnAt columnBytes columnsThen relationAt relationBytes domainOf selectionAt joined joinAt clauseAt kindBytes sizesOf relationsOf clausesOf targetsOf columnsIn withVersion withSizes withRelations withClauses withTargets siteOf isAt holds names kept keptColumns firstBare ended filled listInto targetsThen clausesThen relationsThen sizesThen envelopeFrom envelopeBytes checkEnvelope edges onPath isPlace legalBy stepBytes constantsOf selectionsBy equalitiesBy stepsOf stepAt endedProgram stepsThen programBy readProgram programBytes checkProgram rowsIn tablesIn tablesOf meetsAll answerOn answerRows countIn wordsBefore rowsBefore firstWord rowsAt marksAt keptOf keptRows sieved reducedBy removedOf removedBy valuesOf risingValues stepped nextOf shaped passesBy passes openedAt opened runMarks runChecked runOutcome marksAfter
+unfolding numbered padded numbersFrom littleEnd bytesOf firstFrom insert rising numberAt numberThat marked markOf versionAt headOf samePlace placeAt placeBytes columnsOf columnAt columnBytes columnsThen relationAt relationBytes domainOf selectionAt joined joinAt clauseAt kindBytes sizesOf relationsOf clausesOf targetsOf columnsIn withVersion withSizes withRelations withClauses withTargets siteOf isAt holds names kept keptColumns firstBare ended filled listInto targetsThen clausesThen relationsThen sizesThen envelopeFrom envelopeBytes checkEnvelope edges onPath isPlace legalBy stepBytes constantsOf selectionsBy equalitiesBy stepsOf stepAt endedProgram stepsThen programBy readProgram programBytes checkProgram papersOf rowsIn tablesIn tablesOf meetsAll answerOn answerRows countIn wordsBefore rowsBefore firstWord rowsAt marksAt keptOf keptRows sieved reducedBy removedOf removedBy valuesOf risingValues stepped nextOf shaped passesBy passes openedAt opened runMarks runChecked runOutcome marksAfter
 figures-hold = refl

@@ -2,20 +2,21 @@
 -- marks say where they pass.
 use mathlib.Core.Path.{_≡_, refl, sym, ap, _∙_}
 use mathlib.Core.Bool.{Bool, true, false, not, _||_, false≢true}
-use mathlib.Core.List.{List, [], _∷_, map, List·Memᴰ}
-use mathlib.Core.Logic.{_↔_, _⊎_, inl, inr}
+use mathlib.Core.List.{List, [], _∷_, map, List·Memᴰ, List·Memᴰ·head, List·Memᴰ·tail}
+use mathlib.Core.Logic.{_↔_}
 use Prim.Native.Nat.{ℕ, _≤_, _<_}
 use native.Mathlib.Omega.{arith}
 use lib.Dec.{ltb}
 use borrow.Author.Tests.{ltb-false, lt-ltb, le-ltb, not-true, not-false}
 use Rattle.ground.specs.Tests.{pick}
+use Rattle.ground.specs.Lists.{Every}
 use Rattle.ground.specs.Outcome.{Outcome, verdictOf}
 use Rattle.ground.specs.Outcome.Outcome.{good, bad}
 use Rattle.ground.specs.Refusing.{Test, test, judged}
 use Rattle.ground.specs.declared.Verdict.{Verdict}
 use Rattle.ground.specs.declared.Verdict.the-variants.{Taken, Refused}
 use Rattle.ground.proofs.OutcomeLaws.{never, good-bad}
-use Rattle.ground.proofs.RefusingLaws.{someFail, judged-none, judged-number}
+use Rattle.ground.proofs.RefusingLaws.{someFail, judged-none}
 use Rattle.fields.specs.Refusals.{wrongShape, tooShort, notOurs}
 use Rattle.entries.specs.declared.places.Place.{Place}
 use Rattle.envelopes.specs.declared.envelope.Envelope.{Envelope}
@@ -54,14 +55,20 @@ module _ (ts : List Test) (v : Verdict) (g : v ≡ judgement ts) where
   pub judge-taken : {A : Type 0} (o : Outcome A) → v ≡ Taken → judged ts o ≡ o
   judge-taken o h = judged-none ts o (judge-passed h)
 
--- where the effect is good, a refusal's number is that of a test
-pub number-listed : {A : Type 0} (ts : List Test) (v : A) (p n q : ℕ) → judged ts (good v p) ≡ bad n q
-    → List·Memᴰ n (map (λ (t : Test). t .number) ts)
-number-listed ts v p n q h = go (judged-number ts (good v p) n q h)
+-- where the effect is good and every test has position 0, a refusal has the number of a test, and position 0
+pub refusal-listed : {A : Type 0} (ts : List Test) (v : A) (p n q : ℕ) → Every (λ (t : Test). t .position ≡ 0) ts
+    → judged ts (good v p) ≡ bad n q → List·Memᴰ n (map (λ (t : Test). t .number) ts) × (q ≡ 0)
+refusal-listed [] v p n q z h = absurd (good-bad v p n q h)
+refusal-listed {A} (t ∷ ts) v p n q z h = go (t .fails) h (refusal-listed ts v p n q (z .1))
   where
-    go : List·Memᴰ n (map (λ (t : Test). t .number) ts) ⊎ (good v p ≡ bad n q) → List·Memᴰ n (map (λ (t : Test). t .number) ts)
-    go (inl m) = m
-    go (inr k) = absurd (good-bad v p n q k)
+    go : (b : Bool) → pick b (bad (t .number) (t .position)) (judged ts (good v p)) ≡ bad n q
+        → (judged ts (good v p) ≡ bad n q → List·Memᴰ n (map (λ (t : Test). t .number) ts) × (q ≡ 0))
+        → List·Memᴰ n (t .number ∷ map (λ (t : Test). t .number) ts) × (q ≡ 0)
+    go true h ih =
+        let same : n ≡ t .number = cc in
+        let place : q ≡ t .position = cc in
+        (List·Memᴰ·head same, place ∙ z .0)
+    go false h ih = let (m, e) = ih h in (List·Memᴰ·tail m, e)
 
 -- ---- tables, marks and a column that pass their tests
 

@@ -11,8 +11,8 @@ pub mod LocalLaws
 pub mod PromiseLaws
 pub mod AnswerLaws
 pub mod TidyLaws
-pub mod CallLaws
 pub mod RunLaws
+pub mod CallLaws
 pub mod Figures
 pub mod OffsetCodeLaws
 pub mod RisingCodeLaws

@@ -11,7 +11,7 @@ use lib.Seq.{sets, sets-eq, take-at, drop-at}
 use lib.Dec.{eqb}
 use borrow.Author.Tests.{eq-eqb}
 use Rattle.ground.specs.Tests.{pick}
-use Rattle.ground.specs.Lists.{filter, each, below, numbersFrom}
+use Rattle.ground.specs.Lists.{each, below, numbersFrom}
 use Rattle.ground.proofs.CountLaws.{left-suc}
 use Rattle.ground.proofs.TestLaws.{and-both}
 use Rattle.ground.proofs.ListLaws.{all-of, each-append, getD-map}
@@ -26,10 +26,9 @@ use Rattle.papers.specs.declared.implied.Equal.{Equal}
 use Rattle.papers.proofs.ImpliedLaws.{selection-met, equality-met}
 use Rattle.semijoin.specs.Offsets.{countIn, rowsBefore, firstMark, rowCount, rowsAt, marksAt}
 use Rattle.semijoin.specs.Local.{passesBy, passes, openedAt, opened}
-use Rattle.semijoin.specs.Marks.{keptOf, keptRows, isKept}
+use Rattle.semijoin.specs.Marks.{isKept}
 use Rattle.semijoin.specs.Promise.{rowOf, keptAt, Needed}
 use Rattle.semijoin.proofs.OffsetLaws.{rowsAt-length, rows-none, rows-more}
-use Rattle.semijoin.proofs.MarkLaws.{kept-test}
 
 -- a row that the answer needs passes
 pub needed-passes : (e : Envelope) (whole : List ℕ) (r : ℕ) (row : Row) → Needed e whole r row → passes e r row ≡ true
@@ -109,14 +108,6 @@ module _ (e : Envelope) (words : List ℕ) where
       opened-past =
           let end : 0 + length (opened e words here) ≡ rowCount e words = omega (arith, opened-length) in
           rw end at (sets-behind marks 0 (opened e words here) room)
-
-      -- the kept rows of a relation that is here are those that pass
-      pub opened-rows : (r : ℕ) → r < relationCount e
-          → keptRows e words (sets marks 0 (opened e words here)) r ≡ filter (λ (row : Row). here r && passes e r row) (rowsAt e words r)
-      unfolding keptRows openedAt
-      opened-rows r h =
-          ap (λ (ms : List ℕ). keptOf ms (rowsAt e words r)) (opened-own r h)
-          ∙ kept-test (λ (row : Row). here r && passes e r row) (rowsAt e words r)
 
       -- 1 where a row is here and passes, else 0; so it is kept exactly there
       pub opened-byte : (r i : ℕ) → r < relationCount e → i < countIn e words r

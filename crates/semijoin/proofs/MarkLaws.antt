@@ -179,22 +179,6 @@ module _ (values : List ℕ) (c : ℕ) where
       go false k true e = rw k (omega arith)
       go false k false e = omega arith
 
-  pub sieved-append : (a b : List ℕ) (s t : Table) → length a ≡ length s
-      → sieved values c (a ++ b) (s ++ t) ≡ sieved values c a s ++ sieved values c b t
-  unfolding sieved
-  sieved-append [] b [] t h = refl
-  sieved-append [] b (row ∷ s) t h = absurd (omega arith)
-  sieved-append (m ∷ a) b [] t h = absurd (omega arith)
-  sieved-append (m ∷ a) b (row ∷ s) t h = rw (sieved-append a b s t (omega arith))
-
-  pub removed-append : (a b : List ℕ) (s t : Table) → length a ≡ length s
-      → removedOf values c (a ++ b) (s ++ t) ≡ removedOf values c a s + removedOf values c b t
-  unfolding removedOf
-  removed-append [] b [] t h = omega arith
-  removed-append [] b (row ∷ s) t h = absurd (omega arith)
-  removed-append (m ∷ a) b [] t h = absurd (omega arith)
-  removed-append (m ∷ a) b (row ∷ s) t h = rw (removed-append a b s t (omega arith)) (omega arith)
-
 -- values that are alike sieve alike
 pub sieved-alike : (values others : List ℕ) (c : ℕ) → ((v : ℕ) → among values v ≡ among others v) → (ms : List ℕ) (t : Table)
     → sieved values c ms t ≡ sieved others c ms t
@@ -218,16 +202,3 @@ module _ (ms : List ℕ) (t : Table) (i : ℕ) (h : i < length ms) (k : i < leng
   pub kept-more : keptOf (take (i + 1) ms) (take (i + 1) t) ≡ keptOf (take i ms) (take i t) ++ consIf (isKept (getD ms i 0)) (getD t i []) []
   unfolding keptOf
   kept-more = rw (marks-more, table-more) (kept-append (take i ms) (getD ms i 0 ∷ []) (take i t) (getD t i [] ∷ []) long)
-
-  module _ (values : List ℕ) (c : ℕ) where
-    pub sieved-more : sieved values c (take (i + 1) ms) (take (i + 1) t)
-        ≡ sieved values c (take i ms) (take i t) ++ (pick (occurs values c (getD t i [])) (getD ms i 0) 0 ∷ [])
-    unfolding sieved
-    sieved-more = rw (marks-more, table-more) (sieved-append values c (take i ms) (getD ms i 0 ∷ []) (take i t) (getD t i [] ∷ []) long)
-
-    pub removed-more : removedOf values c (take (i + 1) ms) (take (i + 1) t)
-        ≡ removedOf values c (take i ms) (take i t) + pick (occurs values c (getD t i [])) 0 (pick (isKept (getD ms i 0)) 1 0)
-    unfolding removedOf
-    removed-more =
-        rw (marks-more, table-more)
-        (removed-append values c (take i ms) (getD ms i 0 ∷ []) (take i t) (getD t i [] ∷ []) long ∙ rw add-zero)

@@ -15,7 +15,7 @@ use Rattle.ground.proofs.CountLaws.{split}
 use Rattle.envelopes.specs.Parts.{relationCount, columnsIn}
 use Rattle.envelopes.specs.declared.envelope.Envelope.{Envelope}
 use Rattle.papers.specs.Meaning.{Row, Table, wordIn, rowsIn, tablesIn, countsOf, tablesOf}
-use Rattle.semijoin.specs.Offsets.{countIn, wordsBefore, rowsBefore, firstWord, firstMark, rowCount, rowsAt}
+use Rattle.semijoin.specs.Offsets.{countIn, wordsBefore, rowsBefore, firstWord, firstMark, rowsAt}
 use Rattle.semijoin.proofs.SumLaws.{sum-none, sum-below, sum-end}
 
 -- ---- rows cut from words
@@ -85,9 +85,6 @@ module _ (e : Envelope) (words : List ℕ) where
   pub marks-end : (r n : ℕ) → r < n → firstMark e words r + countIn e words r ≤ rowsBefore e words n
   unfolding rowsBefore
   marks-end r n h = sum-end (countIn e words) r n h
-
-  pub mark-fits : (r i : ℕ) → r < relationCount e → i < countIn e words r → firstMark e words r + i < rowCount e words
-  mark-fits r i h k = omega (arith, marks-end r (relationCount e) h)
 
   -- ---- the rows
 

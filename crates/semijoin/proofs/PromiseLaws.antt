@@ -9,7 +9,7 @@ use native.Mathlib.Omega.{arith}
 use lib.ListN.{length, getD, drop, length-map}
 use lib.Seq.{length-sets}
 use lib.Dec.{eqb}
-use borrow.Author.Tests.{eqb-true, eq-eqb, ltb-true}
+use borrow.Author.Tests.{eqb-true, eq-eqb}
 use Rattle.ground.specs.Tests.{pick}
 use Rattle.ground.specs.Lists.{filter, below}
 use Rattle.ground.specs.Rising.{Rises}
@@ -29,14 +29,15 @@ use Rattle.papers.proofs.StepLaws.{legal-step}
 use Rattle.papers.proofs.MeaningLaws.{columns-equal}
 use Rattle.semijoin.specs.Offsets.{countIn, firstMark, rowsAt, marksAt}
 use Rattle.semijoin.specs.Rising.{among}
-use Rattle.semijoin.specs.Marks.{isKept, keptRows, sieved, reducedBy}
+use Rattle.semijoin.specs.Marks.{isKept, keptRows, sieved, reducedBy, removedBy}
 use Rattle.semijoin.specs.Values.{valuesOf, risingValues}
 use Rattle.semijoin.specs.Local.{opened, openedIn}
 use Rattle.semijoin.specs.Promise.{rowOf, wordOf, keptAt, SameRows, FewerRows, FewerValues, Needed, Covers, Holds, Promise}
 use Rattle.semijoin.proofs.OffsetLaws.{count-outside, rowsAt-length, table-at, tables-length}
+use Rattle.semijoin.proofs.ShapeLaws.{place-relation}
 use Rattle.semijoin.proofs.MarkLaws.{kept-mem, kept-from, kept-numbers, sieved-at, sieved-past, kept-length}
 use Rattle.semijoin.proofs.LocalLaws.{needed-passes, opened-byte, opened-kept, opened-past}
-use Rattle.semijoin.proofs.ReducedLaws.{reduced-length, reduced-own, reduced-byte, reduced-other, reduced-past, reduced-alike}
+use Rattle.semijoin.proofs.ReducedLaws.{reduced-length, reduced-own, reduced-byte, reduced-other, reduced-past, removed-rows, reduced-alike}
 
 kept-both : (b : Bool) (m : ℕ) → isKept (pick b m 0) ≡ (isKept m && b)
 kept-both true m = go (isKept m)
@@ -173,9 +174,8 @@ module _ (e : Envelope) where
 
   values-needed : (whole words marks : List ℕ) (b : Place) → isPlace e b ≡ true → SameRows e (b .relation) words whole
       → Covers e whole words marks (b .relation) → Holds e whole (valuesOf e words marks b) b
-  unfolding isPlace
   values-needed whole words marks b p same covers row n =
-      let h : b .relation < relationCount e = ltb-true _ _ (and-left _ _ p) in
+      let h : b .relation < relationCount e = place-relation e b p in
       let (i, l, w) = mem-getD [] (needed-row whole (b .relation) h row n) in
       let own : rowOf e words (b .relation) i ≡ row = ap (λ (t : Table). getD t i []) same ∙ w in
       let k : i < countIn e words (b .relation) = omega (arith, ap length same, rowsAt-length e words (b .relation)) in
@@ -198,9 +198,14 @@ module _ (e : Envelope) where
       (λ k. let none : countIn e words r ≡ 0 = count-outside e words r k in absurd (omega arith))
       (λ k. k)
 
-  pub promise : Promise e (valuesOf e) (risingValues e) (reducedBy e) (openedIn e)
+  counts-same : (words others : List ℕ) (r : ℕ) → SameRows e r words others → countIn e words r ≡ countIn e others r
+  counts-same words others r same = sym (rowsAt-length e words r) ∙ ap length same ∙ rowsAt-length e others r
+
+  pub promise : Promise e (valuesOf e) (risingValues e) (reducedBy e) (openedIn e) (removedBy e)
   promise =
       record {
+        kept-inside = kept-inside;
+        same-counts = counts-same;
         kept-are = numbered-rows;
         values-are = λ words marks b v. (values-from words marks b v, λ (i, k, w). values-of words marks b v i k w);
         same-values = rising-same;
@@ -211,6 +216,7 @@ module _ (e : Envelope) where
         exactly = exact;
         adds-none = none-added;
         stores = λ words values marks a i h. reduced-byte e words values a marks i h;
+        removes = λ words values marks a. removed-rows e words values a marks;
         others-stay = λ words values marks a r n. reduced-other e words values a marks r n;
         past-stay = λ words values marks a. reduced-past e words values a marks;
         as-many = λ words values marks a. reduced-length e words values a marks;

@@ -14,7 +14,7 @@ use Rattle.envelopes.specs.declared.envelope.Envelope.{Envelope}
 use Rattle.semijoin.specs.Offsets.{countIn, firstMark, rowCount, rowsAt, marksAt}
 use Rattle.semijoin.specs.Rising.{among}
 use Rattle.semijoin.specs.Marks.{keptOf, keptRows, sieved, reducedBy, removedBy}
-use Rattle.semijoin.proofs.PartLaws.{none, part-length, part-getD, part-stand, part-before, part-behind}
+use Rattle.semijoin.proofs.PartLaws.{none, part-length, part-stand, part-before, part-behind}
 use Rattle.semijoin.proofs.OffsetLaws.{count-outside, marks-end, rowsAt-length}
 use Rattle.semijoin.proofs.MarkLaws.{occurs, sieved-length, sieved-at, kept-sieved, removed-kept, sieved-alike}
 
@@ -26,11 +26,6 @@ module _ (e : Envelope) (words : List ℕ) where
   unfolding marksAt
   marks-length marks r h k =
       part-length (firstMark e words r) (countIn e words r) marks (omega (arith, marks-end e words r (relationCount e) h))
-
-  pub mark-at : (marks : List ℕ) (r i : ℕ) → i < countIn e words r
-      → getD (marksAt e words r marks) i 0 ≡ getD marks (firstMark e words r + i) 0
-  unfolding marksAt
-  mark-at marks r i h = part-getD (firstMark e words r) (countIn e words r) marks i 0 h
 
   -- ---- marks written with as many as a relation has of them
 

@@ -10,7 +10,7 @@ use lib.ListN.{length, getD, take, drop, replicate, length-take, drop-of-length-
 use lib.Seq.{sets, drop-cons, getD-take}
 use Rattle.ground.specs.Lists.{Every, below}
 use Rattle.ground.specs.Rising.{Rises}
-use Rattle.ground.specs.Outcome.{Outcome, verdictOf, next, nextOf}
+use Rattle.ground.specs.Outcome.{verdictOf, nextOf}
 use Rattle.ground.specs.Outcome.Outcome.{good}
 use Rattle.ground.specs.declared.Verdict.{Verdict}
 use Rattle.ground.specs.declared.Verdict.the-variants.{Taken, Refused}
@@ -18,21 +18,17 @@ use Rattle.ground.proofs.ListLaws.{each-alike}
 use Rattle.ground.proofs.EveryLaws.{every-getD}
 use Rattle.ground.proofs.NumbersLaws.{below-from}
 use Rattle.fields.proofs.PutLaws.{fresh-bytes}
-use Rattle.envelopes.specs.Envelope.{checkEnvelope, shownEnvelope}
 use Rattle.envelopes.specs.Parts.{relationCount}
 use Rattle.envelopes.specs.Rules.{Within}
 use Rattle.envelopes.specs.declared.envelope.Envelope.{Envelope}
-use Rattle.envelopes.specs.declared.reading.EnvelopeRead.{EnvelopeRead}
-use Rattle.envelopes.proofs.ReadingLaws.{read-taken, read-refused}
-use Rattle.envelopes.proofs.ExactEnvelope.{check-sound}
 use Rattle.papers.specs.Steps.{legal, LegalStep}
-use Rattle.papers.specs.Programs.{noStep, stepsOf, programAgainst, programBytes, readProgram, checkProgram, shownProgram}
+use Rattle.papers.specs.Programs.{noStep, stepsOf}
+use Rattle.papers.specs.Checks.{papersOf, shownPapers}
 use Rattle.papers.specs.declared.steps.Step.{Step}
 use Rattle.papers.specs.declared.programs.Program.{Program}
-use Rattle.papers.specs.declared.programs.ProgramRead.{ProgramRead}
+use Rattle.papers.specs.declared.checks.PapersRead.{PapersRead}
 use Rattle.papers.proofs.StepLaws.{legal-step}
-use Rattle.papers.proofs.ProgramCodeLaws.{program-taken, program-refused}
-use Rattle.papers.proofs.ExactPrograms.{program-bytes, program-exact}
+use Rattle.papers.proofs.CheckLaws.{papers-taken, papers-refused, papers-sound, GoodPapers}
 use Rattle.semijoin.specs.Shape.{shaped, marksTests, judgement}
 use Rattle.semijoin.specs.Local.{openedAt, opened, openedIn}
 use Rattle.semijoin.specs.Marks.{reducedBy, marksAfter}
@@ -159,44 +155,31 @@ module _ (e : Envelope) (p : Program) (words marks : List ℕ) where
 
 -- ---- the whole run
 
-module _ (e : Envelope) (p : Program) (words marks : List ℕ) (c : EnvelopeRead) (g : c ≡ shownEnvelope (checkEnvelope e)) where
+module _ (e : Envelope) (p : Program) (words marks : List ℕ) (x : PapersRead) (g : x ≡ shownPapers (papersOf e p)) where
   abbrev RanWhole : Verdict → List ℕ → Type 0
   RanWhole v after = (v ≡ verdictOf (runOutcome e p words marks)) × (after ≡ marksAfter marks (runOutcome e p words marks))
 
-  pub run-envelope : (m q : ℕ) → c .verdict ≡ Refused m q → RanWhole (Refused m q) marks
+  pub run-papers : (m q : ℕ) → x .verdict ≡ Refused m q → RanWhole (Refused m q) marks
   unfolding runOutcome verdictOf marksAfter
-  run-envelope m q h = rw (read-refused (checkEnvelope e) c m q g h) (refl, refl)
+  run-papers m q h = rw (papers-refused (papersOf e p) x m q g h) (refl, refl)
 
-  module _ (h : c .verdict ≡ Taken) (x : ProgramRead) (k : x ≡ shownProgram (checkProgram e p)) where
-    taken : checkEnvelope e ≡ good (c .envelope) (nextOf (checkEnvelope e))
-    taken = read-taken (checkEnvelope e) c g h
+  module _ (h : x .verdict ≡ Taken) where
+    taken : papersOf e p ≡ good (x .papers) (nextOf (papersOf e p))
+    taken = papers-taken (papersOf e p) x g h
 
-    against : checkProgram e p ≡ programAgainst (c .envelope) (programBytes p)
-    unfolding checkProgram readProgram
-    against = ap (λ (o : Outcome Envelope). next o (λ f _. programAgainst f (programBytes p))) taken
+    sound : GoodPapers (x .papers)
+    sound = papers-sound e p (x .papers) (nextOf (papersOf e p)) taken
 
-    as-run : runOutcome e p words marks ≡ next (checkProgram e p) (λ q _. runChecked (c .envelope) q words marks)
+    pub run-within : Within (x .papers .envelope)
+    run-within = sound .within
+
+    pub run-legal : Every (λ (s : Step). legal (x .papers .envelope) s ≡ true) (stepsOf (x .papers .program))
+    run-legal = sound .acceptable .steps
+
+    as-run : runOutcome e p words marks ≡ runChecked (x .papers .envelope) (x .papers .program) words marks
     unfolding runOutcome
-    as-run =
-        ap (λ (o : Outcome Envelope). next o (λ f _. next (programAgainst f (programBytes p)) (λ q _. runChecked f q words marks))) taken
-        ∙ ap (λ (o : Outcome Program). next o (λ q _. runChecked (c .envelope) q words marks)) (sym against)
+    as-run = rw taken
 
-    pub run-program : (m q : ℕ) → x .verdict ≡ Refused m q → RanWhole (Refused m q) marks
-    unfolding verdictOf marksAfter
-    run-program m q v = rw (as-run, program-refused (checkProgram e p) x m q k v) (refl, refl)
-
-    module _ (v : x .verdict ≡ Taken) where
-      good-program : checkProgram e p ≡ good (x .program) (nextOf (checkProgram e p))
-      good-program = program-taken (checkProgram e p) x k v
-
-      pub run-within : Within (c .envelope)
-      run-within = check-sound e (c .envelope) (nextOf (checkEnvelope e)) taken .0 .0
-
-      pub run-legal : Every (λ (s : Step). legal (c .envelope) s ≡ true) (stepsOf (x .program))
-      run-legal =
-          program-exact (c .envelope) run-within (programBytes p) (x .program) (nextOf (checkProgram e p)) (program-bytes p) .0
-          (sym against ∙ good-program) .0 .0 .steps
-
-      pub run-good : (r : Verdict) (after : List ℕ) → r ≡ verdictOf (runChecked (c .envelope) (x .program) words marks)
-          → after ≡ marksAfter marks (runChecked (c .envelope) (x .program) words marks) → RanWhole r after
-      run-good r after a b = rw (as-run, good-program) (a, b)
+    pub run-good : (r : Verdict) (after : List ℕ) → r ≡ verdictOf (runChecked (x .papers .envelope) (x .papers .program) words marks)
+        → after ≡ marksAfter marks (runChecked (x .papers .envelope) (x .papers .program) words marks) → RanWhole r after
+    run-good r after a b = rw as-run (a, b)

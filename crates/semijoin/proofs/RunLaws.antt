@@ -1,20 +1,24 @@
--- The one-place run: local operations and then legal steps keep every row that the answer needs, so the answer on the kept
--- rows is the answer, in its order. What a legal step does here is known by the promise alone.
+-- The one-place run: local operations keep every row that the answer needs, and a legal step removes only rows that stand in no
+-- combination of kept rows which meets all clauses, so the answer on the kept rows is the answer, in its order.
 use mathlib.Core.Path.{_≡_, refl, sym, ap, _∙_}
-use mathlib.Core.Bool.{true}
+use mathlib.Core.Bool.{Bool, true, _&&_}
 use mathlib.Core.Logic.{_↔_}
-use mathlib.Core.List.{List, [], _∷_}
+use mathlib.Core.List.{List, [], _∷_, List·Memᴰ}
 use Prim.Native.Nat.{ℕ, _≤_, _<_}
 use native.Mathlib.Decide.{ℕ-discrete}
 use native.Mathlib.Omega.{arith}
-use lib.ListN.{length, drop}
+use lib.ListN.{length, getD, drop}
 use lib.Seq.{sets, length-sets}
-use borrow.Author.Tests.{le-ltb}
-use Rattle.ground.specs.Lists.{Every}
-use Rattle.ground.specs.Outcome.{Outcome, next}
+use lib.Dec.{eqb}
+use borrow.Author.Tests.{le-ltb, eq-eqb, ne-eqb}
+use Rattle.ground.specs.Tests.{pick}
+use Rattle.ground.specs.Lists.{Every, filter, below}
 use Rattle.ground.specs.Outcome.Outcome.{good}
 use Rattle.ground.specs.Refusing.{judged}
 use Rattle.ground.proofs.CountLaws.{split}
+use Rattle.ground.proofs.TestLaws.{and-left, and-right, and-both}
+use Rattle.ground.proofs.ListLaws.{any-of, map-mem, map-alike, filter-every}
+use Rattle.ground.proofs.CombinationLaws.{combinations-from}
 use Rattle.ground.proofs.OutcomeLaws.{next-good}
 use Rattle.ground.proofs.RefusingLaws.{judged-good}
 use Rattle.envelopes.specs.Envelope.{checkEnvelope}
@@ -24,29 +28,34 @@ use Rattle.envelopes.proofs.TidyLaws.{tidy-within}
 use Rattle.envelopes.proofs.ExactEnvelope.{check-complete}
 use Rattle.envelopes.specs.Parts.{relationCount, clausesOf, targetsOf}
 use Rattle.envelopes.specs.declared.envelope.Envelope.{Envelope}
-use Rattle.papers.specs.Meaning.{answerOn, answerRows}
+use Rattle.papers.specs.Meaning.{Row, Table, wordIn, valueIn, answerOn, answerRows}
 use Rattle.papers.specs.Steps.{legal}
 use Rattle.papers.specs.Programs.{stepsOf, programAgainst, readProgram, programBytes, checkProgram, Acceptable, tidyProgram}
+use Rattle.papers.specs.Checks.{papersOf}
 use Rattle.papers.specs.Fits.{ProgramFits}
 use Rattle.papers.specs.declared.steps.Step.{Step}
 use Rattle.papers.specs.declared.programs.Program.{Program}
 use Rattle.papers.proofs.StepLaws.{legal-step}
+use Rattle.papers.proofs.MeaningLaws.{columns-equal}
 use Rattle.papers.proofs.TidyLaws.{tidy-acceptable}
 use Rattle.papers.proofs.ExactPrograms.{program-complete}
 use Rattle.papers.proofs.ExactChecks.{check-exact}
 use Rattle.semijoin.specs.Offsets.{countIn, rowCount}
 use Rattle.semijoin.specs.Local.{opened}
 use Rattle.semijoin.specs.Marks.{keptRows, keptTables, reducedBy}
+use Rattle.semijoin.specs.Rising.{among}
 use Rattle.semijoin.specs.Values.{valuesOf}
 use Rattle.semijoin.specs.Run.{stepped, steppedAll, runChecked, runMarks, runOutcome}
 use Rattle.semijoin.specs.Shape.{shaped, marksTests}
-use Rattle.semijoin.specs.Promise.{rowOf, keptAt, FewerRows, Needed, Covers}
+use Rattle.semijoin.specs.Promise.{rowOf, wordOf, keptAt, FewerRows, NeededIn, Covers}
 use Rattle.semijoin.proofs.OffsetLaws.{count-outside}
 use Rattle.semijoin.proofs.JudgedLaws.{marks-pass}
 use Rattle.semijoin.proofs.PromiseLaws.{promise}
 use Rattle.semijoin.proofs.LocalLaws.{needed-passes, opened-kept, opened-past}
 use Rattle.semijoin.proofs.TidyLaws.{tidy-shaped, tidy-row-count, tidy-run, tidy-program-run}
-use Rattle.semijoin.proofs.AnswerLaws.{delivered}
+use Rattle.semijoin.proofs.AnswerLaws.{listed-length, listed-at, answer-filtered, delivered}
+use Rattle.semijoin.proofs.ReducedLaws.{rows-reduced, rows-others}
+use Rattle.semijoin.proofs.ShapeLaws.{place-relation}
 
 module _ (e : Envelope) (words : List ℕ) where
   -- marks keep every row that the answer needs
@@ -70,37 +79,95 @@ module _ (e : Envelope) (words : List ℕ) where
 
   -- ---- steps
 
-  pub step-covers : (s : Step) (marks : List ℕ) → legal e s ≡ true → CoversAll marks → CoversAll (stepped e words s marks)
+  -- a step keeps exactly the kept rows of its left relation whose column occurs in its right column, of the kept rows
+  pub step-exact : (s : Step) (marks : List ℕ) (i : ℕ)
+      → (keptAt e words (stepped e words s marks) (s .left .relation) i ≡ true)
+      ↔ ((keptAt e words marks (s .left .relation) i ≡ true)
+      × ((j : ℕ) × (keptAt e words marks (s .right .relation) j ≡ true) × (wordOf e words (s .right) j ≡ wordOf e words (s .left) i)))
   unfolding stepped
-  step-covers s marks t covers r i h n = go (ℕ-discrete r (s .left .relation))
-    where
-      values : List ℕ
-      values = valuesOf e words marks (s .right)
+  step-exact s marks i = (
+    λ t.
+        let both : (keptAt e words marks (s .left .relation) i && among (valuesOf e words marks (s .right)) (wordOf e words (s .left) i)) ≡ true =
+        sym (promise e .exactly words (valuesOf e words marks (s .right)) marks (s .left) i) ∙ t in (
+          and-left _ _ both,
+          promise e .values-are words marks (s .right) (wordOf e words (s .left) i) .0
+              (and-right (keptAt e words marks (s .left .relation) i) _ both),
+        ),
+    λ (k, some).
+        promise e .exactly words (valuesOf e words marks (s .right)) marks (s .left) i
+        ∙ and-both k (promise e .values-are words marks (s .right) (wordOf e words (s .left) i) .1 some),
+  )
 
-      own : (i : ℕ) → i < countIn e words (s .left .relation) → Needed e words (s .left .relation) (rowOf e words (s .left .relation) i)
-          → keptAt e words (reducedBy e words values (s .left) marks) (s .left .relation) i ≡ true
-      own i h n =
-          promise e .needed-stay words words values marks s t
-          (promise e .needed-values words words marks (s .right) (legal-step e s t .right) refl (covers (s .right .relation)))
-          i n (covers (s .left .relation) i h n)
+  -- a legal step leaves the answer, whatever the marks: a row that it removes stands in no combination of kept rows that meets
+  -- all clauses, for along the step's path those have equal values
+  module _ (s : Step) (marks : List ℕ) where
+    abbrev occursRight : Row → Bool
+    occursRight row = among (valuesOf e words marks (s .right)) (wordIn row (s .left .column))
 
-      go : Dec (r ≡ s .left .relation) → keptAt e words (reducedBy e words values (s .left) marks) r i ≡ true
-      go (yes p) = rw p (own i (rw p at h) (rw p at n))
-      go (no differ) = rw (promise e .others-stay words values marks (s .left) r differ) (covers r i h n)
+    abbrev stays : ℕ → Row → Bool
+    stays r row = pick (eqb r (s .left .relation)) (occursRight row) true
 
-  -- a legal step leaves the answer of marks that keep every needed row
-  pub step-answer : (s : Step) (marks : List ℕ) → legal e s ≡ true → CoversAll marks
-      → answerOn (clausesOf e) (targetsOf e) (keptTables e words (stepped e words s marks))
-      ≡ answerOn (clausesOf e) (targetsOf e) (keptTables e words marks)
-  step-answer s marks t covers = answer-kept (stepped e words s marks) (step-covers s marks t covers) ∙ sym (answer-kept marks covers)
+    stepped-rows : (r : ℕ) → keptRows e words (stepped e words s marks) r ≡ filter (stays r) (keptRows e words marks r)
+    unfolding stepped
+    stepped-rows r = go (ℕ-discrete r (s .left .relation))
+      where
+        sieve : ℕ → Bool → Table
+        sieve r b = filter (λ (row : Row). pick b (occursRight row) true) (keptRows e words marks r)
+
+        own : keptRows e words (reducedBy e words (valuesOf e words marks (s .right)) (s .left) marks) (s .left .relation)
+            ≡ sieve (s .left .relation) (eqb (s .left .relation) (s .left .relation))
+        own =
+            rows-reduced e words (valuesOf e words marks (s .right)) (s .left) marks
+            ∙ sym (ap (sieve (s .left .relation)) (eq-eqb (s .left .relation) (s .left .relation) refl))
+
+        go : Dec (r ≡ s .left .relation)
+            → keptRows e words (reducedBy e words (valuesOf e words marks (s .right)) (s .left) marks) r ≡ sieve r (eqb r (s .left .relation))
+        go (yes p) = rw p own
+        go (no n) =
+            rows-others e words (valuesOf e words marks (s .right)) (s .left) marks r n
+            ∙ sym (ap (sieve r) (ne-eqb r (s .left .relation) n) ∙ filter-every (keptRows e words marks r))
+
+    module _ (t : legal e s ≡ true) where
+      partner : (row : Row) → NeededIn e (keptTables e words marks) (s .left .relation) row → occursRight row ≡ true
+      unfolding valuesOf
+      partner row (rows, m, met, w) =
+          let k : s .right .relation < relationCount e = place-relation e (s .right) (legal-step e s t .right) in
+          let long : s .right .relation < length (keptTables e words marks) = rw (listed-length (keptRows e words marks) (relationCount e)) k in
+          let there : List·Memᴰ (getD rows (s .right .relation) []) (keptRows e words marks (s .right .relation)) =
+          rw (listed-at (keptRows e words marks) (relationCount e) (s .right .relation) k) at
+          (combinations-from [] (keptTables e words marks) (s .right .relation) long m) in
+          let same : valueIn rows (s .right) ≡ wordIn row (s .left .column) =
+          sym (columns-equal e rows met (s .left) (s .right) (legal-step e s t .path)) ∙ ap (λ (row : Row). wordIn row (s .left .column)) w in
+          any-of (λ x. eqb x (wordIn row (s .left .column))) (map-mem (λ (row : Row). wordIn row (s .right .column)) there)
+          (eq-eqb _ (wordIn row (s .left .column)) same)
+
+      needed-stays : (r : ℕ) (row : Row) → NeededIn e (keptTables e words marks) r row → stays r row ≡ true
+      needed-stays r row n = go (ℕ-discrete r (s .left .relation))
+        where
+          chosen : Bool → Bool
+          chosen b = pick b (occursRight row) true
+
+          go : Dec (r ≡ s .left .relation) → chosen (eqb r (s .left .relation)) ≡ true
+          go (yes p) = ap chosen (eq-eqb r (s .left .relation) p) ∙ partner row (rw p at n)
+          go (no differ) = ap chosen (ne-eqb r (s .left .relation) differ)
+
+      pub step-answer : answerOn (clausesOf e) (targetsOf e) (keptTables e words (stepped e words s marks))
+          ≡ answerOn (clausesOf e) (targetsOf e) (keptTables e words marks)
+      step-answer =
+          ap (answerOn (clausesOf e) (targetsOf e))
+          (map-alike (keptRows e words (stepped e words s marks)) (λ r. filter (stays r) (keptRows e words marks r)) (below (relationCount e))
+          (λ r m. stepped-rows r))
+          ∙ answer-filtered e (keptRows e words marks) stays needed-stays
 
   -- every step legal
   abbrev pub AllLegal : List Step → Type 0
   AllLegal = Every (λ (s : Step). legal e s ≡ true)
 
-  pub steps-cover : (ss : List Step) (marks : List ℕ) → AllLegal ss → CoversAll marks → CoversAll (steppedAll e words ss marks)
-  steps-cover [] marks l covers = covers
-  steps-cover (s ∷ ss) marks l covers = steps-cover ss (stepped e words s marks) (l .1) (step-covers s marks (l .0) covers)
+  pub steps-answer : (ss : List Step) (marks : List ℕ) → AllLegal ss
+      → answerOn (clausesOf e) (targetsOf e) (keptTables e words (steppedAll e words ss marks))
+      ≡ answerOn (clausesOf e) (targetsOf e) (keptTables e words marks)
+  steps-answer [] marks l = refl
+  steps-answer (s ∷ ss) marks l = steps-answer ss (stepped e words s marks) (l .1) ∙ step-answer s marks (l .0)
 
   -- ---- what every list of steps leaves: the length, the bytes past the last row, and no row more
 
@@ -135,13 +202,11 @@ module _ (e : Envelope) (words : List ℕ) where
   run-past p marks fits =
       steps-past (stepsOf p) (sets marks 0 (opened e words (λ _. true))) ∙ opened-past e words (λ _. true) marks fits
 
-  module _ (p : Program) (marks : List ℕ) (legals : AllLegal (stepsOf p)) (fits : rowCount e words ≤ length marks) where
-    pub run-covers : CoversAll (runMarks e p words marks)
-    unfolding runMarks
-    run-covers = steps-cover (stepsOf p) (sets marks 0 (opened e words (λ _. true))) legals (opened-covers marks fits)
-
-    pub run-answer : answerOn (clausesOf e) (targetsOf e) (keptTables e words (runMarks e p words marks)) ≡ answerRows e words
-    run-answer = answer-kept (runMarks e p words marks) run-covers
+  -- local operations and then legal steps leave the answer
+  pub run-answer : (p : Program) (marks : List ℕ) → AllLegal (stepsOf p) → rowCount e words ≤ length marks
+      → answerOn (clausesOf e) (targetsOf e) (keptTables e words (runMarks e p words marks)) ≡ answerRows e words
+  unfolding runMarks
+  run-answer p marks legals fits = steps-answer (stepsOf p) (sets marks 0 (opened e words (λ _. true))) legals ∙ opened-answer marks fits
 
 -- ---- with its refusals
 
@@ -155,7 +220,7 @@ pub record Runs (e : Envelope) (p : Program) (words marks : List ℕ) : Type 0 w
 module _ (e : Envelope) (p : Program) (words marks : List ℕ) where
   -- papers that are taken may be looked at as they are
   pub run-outcome : Within e → Acceptable e p → runOutcome e p words marks ≡ judged (marksTests e words (length marks)) (good (runMarks e p words marks) 0)
-  unfolding runOutcome runChecked
+  unfolding runOutcome papersOf runChecked
   run-outcome within acceptable =
       rw (
         check-complete e within,
@@ -166,13 +231,18 @@ module _ (e : Envelope) (p : Program) (words marks : List ℕ) where
         tidy-program-run e p words marks,
       )
 
+  as-read : (f : Envelope) (r : ℕ) (t : Program) (u : ℕ) → checkEnvelope e ≡ good f r → programAgainst f (programBytes p) ≡ good t u
+      → checkProgram e p ≡ good t u
+  unfolding readProgram checkProgram
+  as-read f r t u check program = rw check program
+
   run-papers : Fits e → ProgramFits p → (after : List ℕ) (q : ℕ) → runOutcome e p words marks ≡ good after q → Within e × Acceptable e p
-  unfolding runOutcome readProgram checkProgram
+  unfolding runOutcome papersOf
   run-papers fits small after q h =
-      let (f, r, check, rest) = next-good (checkEnvelope e) _ after q h in
-      let (t, u, program, _) = next-good (programAgainst f (programBytes p)) _ after q rest in
-      let taken : checkProgram e p ≡ good t u = ap (λ (o : Outcome Envelope). next o (λ g _. programAgainst g (programBytes p))) check ∙ program in
-      let (within, acceptable, _, _) = check-exact e fits p t u small .0 taken in
+      let (both, v, papers, _) = next-good (papersOf e p) _ after q h in
+      let (f, r, check, rest) = next-good (checkEnvelope e) _ both v papers in
+      let (t, u, program, _) = next-good (programAgainst f (programBytes p)) _ both v rest in
+      let (within, acceptable, _, _) = check-exact e fits p t u small .0 (as-read f r t u check program) in
       (within, acceptable)
 
   -- the run is taken exactly then, and its marks are those of the run

@@ -1,8 +1,8 @@
 -- Sums over the numbers below another, as the offsets of relations are made of them.
 use mathlib.Core.Path.{_≡_, refl, ap, _∙_}
 use mathlib.Core.List.{[], _∷_, map}
-use Prim.Native.Nat.{ℕ, zero, suc, _+_, _*_, _≤_, _<_, zero-le}
-use native.Mathlib.Nat.{not-suc-le-zero, add-zero, mul-suc}
+use Prim.Native.Nat.{ℕ, zero, suc, _+_, _≤_, _<_}
+use native.Mathlib.Nat.{not-suc-le-zero, add-zero}
 use native.Mathlib.Numerals.{add-one}
 use native.Mathlib.Omega.{arith}
 use Rattle.ground.specs.Lists.{below, sum, numbersFrom}
@@ -30,16 +30,3 @@ module _ (f : ℕ → ℕ) where
       (split n r
       (λ k. let e : r ≡ n = omega arith in rw e (omega arith))
       (λ k. let ih : sum (map f (below r)) + f r ≤ sum (map f (below n)) = sum-end r n k in omega arith))
-
-  pub sum-most : (k n : ℕ) → ((r : ℕ) → r < n → f r ≤ k) → sum (map f (below n)) ≤ k * n
-  sum-most k zero h = rw sum-none zero-le
-  sum-most k (suc n) h =
-      let ih : sum (map f (below n)) ≤ k * n = sum-most k n (λ r l. h r (omega arith)) in
-      rw (sum-suc n, mul-suc k n) (omega (arith, h n (omega arith)))
-
--- summands that are no more give no more
-pub sum-least : (f g : ℕ → ℕ) (n : ℕ) → ((r : ℕ) → r < n → f r ≤ g r) → sum (map f (below n)) ≤ sum (map g (below n))
-sum-least f g zero h = rw (sum-none f) zero-le
-sum-least f g (suc n) h =
-    let ih : sum (map f (below n)) ≤ sum (map g (below n)) = sum-least f g n (λ r l. h r (omega arith)) in
-    omega (arith, sum-suc f n, sum-suc g n, h n (omega arith))

@@ -20,7 +20,7 @@ use Rattle.semijoin.specs.Offsets.{rowsAt, marksAt, firstMark}
 use Rattle.semijoin.specs.Shape.{columnTests}
 use Rattle.semijoin.specs.Rising.{among, isRising}
 use Rattle.semijoin.specs.declared.marks.Reduced.{Reduced}
-use Rattle.semijoin.specs.declared.marks.Reduced.the-variants.{Rows, Refused}
+use Rattle.semijoin.specs.declared.marks.Reduced.the-variants.{Removed, Refused}
 
 abbrev pub isKept : ℕ → Bool
 isKept mark = not (eqb mark 0)
@@ -71,7 +71,7 @@ reduceOutcome e a words values marks =
 
 -- the answer, for so many rows removed
 unfoldable pub reducedOf : ℕ → Outcome (List ℕ) → Reduced
-reducedOf n (good after p) = Rows n
+reducedOf n (good after p) = Removed n
 reducedOf n (bad m p) = Refused m p
 
 -- the marks after a call that sets them: as they were where it is refused

@@ -1,7 +1,7 @@
 -- "The station end knows the semi-join only by what the semi-join promises." This is the promise: what holds of the kept rows,
 -- of a column's values, of the same values rising, of the marks after a step by some values, and of the marks at opening. The
--- floors above go by it alone.
-use Prim.Native.Nat.{ℕ, _≤_, _<_}
+-- floors above go by it alone, and for the refusals and effects of the calls by proofs/CallLaws.antt.
+use Prim.Native.Nat.{ℕ, _+_, _≤_, _<_}
 use mathlib.Core.Path.{_≡_}
 use mathlib.Core.Bool.{Bool, true, _&&_}
 use mathlib.Core.List.{List, [], map, List·Memᴰ}
@@ -13,7 +13,7 @@ use Rattle.ground.specs.Rising.{Rises}
 use Rattle.envelopes.specs.Parts.{clausesOf}
 use Rattle.entries.specs.declared.places.Place.{Place}
 use Rattle.envelopes.specs.declared.envelope.Envelope.{Envelope}
-use Rattle.papers.specs.Meaning.{Row, Combination, wordIn, meetsAll, tablesOf}
+use Rattle.papers.specs.Meaning.{Row, Table, Combination, wordIn, meetsAll, tablesOf}
 use Rattle.papers.specs.Steps.{isPlace, legal}
 use Rattle.papers.specs.declared.steps.Step.{Step}
 use Rattle.semijoin.specs.Offsets.{countIn, rowCount, rowsAt, marksAt}
@@ -42,10 +42,13 @@ FewerRows e r words marks others those = (i : ℕ) → keptAt e words marks r i 
 abbrev pub FewerValues : List ℕ → List ℕ → Type 0
 FewerValues values others = (v : ℕ) → among values v ≡ true → among others v ≡ true
 
--- on all tables a row of relation r stands in a combination that meets all clauses
+-- on some tables a row of relation r stands in a combination that meets all clauses; so on all tables, as words
+abbrev pub NeededIn : Envelope → List Table → ℕ → Row → Type 0
+NeededIn e tables r row =
+    (rows : Combination) × List·Memᴰ rows (combinations tables) × (meetsAll (clausesOf e) rows ≡ true) × (getD rows r [] ≡ row)
+
 abbrev pub Needed : Envelope → List ℕ → ℕ → Row → Type 0
-Needed e whole r row =
-    (rows : Combination) × List·Memᴰ rows (combinations (tablesOf e whole)) × (meetsAll (clausesOf e) rows ≡ true) × (getD rows r [] ≡ row)
+Needed e whole r row = NeededIn e (tablesOf e whole) r row
 
 -- marks keep every such row of a relation; values hold that column of every such row
 abbrev pub Covers : Envelope → List ℕ → List ℕ → List ℕ → ℕ → Type 0
@@ -55,9 +58,13 @@ abbrev pub Holds : Envelope → List ℕ → List ℕ → Place → Type 0
 Holds e whole values b = (row : Row) → Needed e whole (b .relation) row → among values (wordIn row (b .column)) ≡ true
 
 -- values and risen: of tables, marks and a column. reduced: by tables, values and a column, the marks. opened: by tables and
--- which relations are here, the marks
+-- which relations are here, the marks. removed: as reduced, how many rows
 pub record Promise (e : Envelope) (values risen : List ℕ → List ℕ → Place → List ℕ)
-    (reduced : List ℕ → List ℕ → Place → List ℕ → List ℕ) (opened : List ℕ → (ℕ → Bool) → List ℕ → List ℕ) : Type 0 where
+    (reduced : List ℕ → List ℕ → Place → List ℕ → List ℕ) (opened : List ℕ → (ℕ → Bool) → List ℕ → List ℕ)
+    (removed : List ℕ → List ℕ → Place → List ℕ → ℕ) : Type 0 where
+  -- a row that is kept is one of the relation's rows; tables with the same rows of a relation have as many
+  pub kept-inside : (words marks : List ℕ) (r i : ℕ) → keptAt e words marks r i ≡ true → i < countIn e words r
+  pub same-counts : (words others : List ℕ) (r : ℕ) → SameRows e r words others → countIn e words r ≡ countIn e others r
   -- the kept rows of a relation are those of its rows that are kept, in table order
   pub kept-are : (words marks : List ℕ) (r : ℕ)
       → keptRows e words marks r ≡ map (rowOf e words r) (filter (keptAt e words marks r) (below (countIn e words r)))
@@ -80,6 +87,10 @@ pub record Promise (e : Envelope) (values risen : List ℕ → List ℕ → Plac
   pub stores : (words values marks : List ℕ) (a : Place) (i : ℕ) → i < countIn e words (a .relation)
       → getD (marksAt e words (a .relation) (reduced words values a marks)) i 0
       ≡ pick (among values (wordOf e words a i)) (getD (marksAt e words (a .relation) marks) i 0) 0
+  -- the rows that were kept are those that still are, and those removed
+  pub removes : (words values marks : List ℕ) (a : Place)
+      → length (keptRows e words marks (a .relation))
+      ≡ length (keptRows e words (reduced words values a marks) (a .relation)) + removed words values a marks
   -- other relations' marks stay, and so do bytes past the last row; there are as many as before
   pub others-stay : (words values marks : List ℕ) (a : Place) (r : ℕ) → (r ≡ a .relation → ⊥)
       → marksAt e words r (reduced words values a marks) ≡ marksAt e words r marks

@@ -6,9 +6,9 @@ use lib.ListN.{length}
 use Rattle.ground.specs.Outcome.{Outcome, next}
 use Rattle.ground.specs.Outcome.Outcome.{good}
 use Rattle.ground.specs.Refusing.{judged}
-use Rattle.envelopes.specs.Envelope.{checkEnvelope}
 use Rattle.envelopes.specs.declared.envelope.Envelope.{Envelope}
-use Rattle.papers.specs.Programs.{stepsOf, programAgainst, programBytes}
+use Rattle.papers.specs.Programs.{stepsOf}
+use Rattle.papers.specs.Checks.{papersOf}
 use Rattle.papers.specs.declared.steps.Step.{Step}
 use Rattle.papers.specs.declared.programs.Program.{Program}
 use Rattle.semijoin.specs.Shape.{marksTests}
@@ -32,9 +32,6 @@ runMarks e p words marks = steppedAll e words (stepsOf p) (openedIn e words (λ 
 unfoldable pub runChecked : Envelope → Program → List ℕ → List ℕ → Outcome (List ℕ)
 runChecked e p words marks = judged (marksTests e words (length marks)) (good (runMarks e p words marks) 0)
 
--- the run with its refusals: the envelope, the program, then those
+-- the run with its refusals: those of both papers, then those
 unfoldable pub runOutcome : Envelope → Program → List ℕ → List ℕ → Outcome (List ℕ)
-runOutcome e p words marks =
-    next (checkEnvelope e)
-    (λ e _. next (programAgainst e (programBytes p))
-    (λ p _. runChecked e p words marks))
+runOutcome e p words marks = next (papersOf e p) (λ q _. runChecked (q .envelope) (q .program) words marks)

@@ -68,21 +68,15 @@ pub fn run_in_one_place(
 ) -> Verdict
     ensures { λ r. ⌜ (r ≡ verdictOf (runOutcome envelope program (now (tables .entry)) (now (marks .entry)))) × (now (marks .exit) ≡ marksAfter (now (marks .entry)) (runOutcome envelope program (now (tables .entry)) (now (marks .entry)))) ⌝ }
 {
-    let read = envelopes::reading::check_envelope(envelope);
+    let read = papers::checks::check_papers(envelope, program);
     let verdict = read.verdict;
     match verdict {
         Verdict::Refused { number, position } => Verdict::Refused { number, position },
         Verdict::Taken => {
-            let checked = read.envelope;
-            let against = papers::programs::check_program(envelope, program);
-            let found = against.verdict;
-            match found {
-                Verdict::Refused { number, position } => Verdict::Refused { number, position },
-                Verdict::Taken => {
-                    let good = against.program;
-                    run_checked(checked, good, tables, marks)
-                }
-            }
+            let checked = read.papers;
+            let envelope = checked.envelope;
+            let program = checked.program;
+            run_checked(envelope, program, tables, marks)
         }
     }
 }

@@ -8,6 +8,8 @@ pub mod SemijoinCalls
 pub mod CallLaws
 pub mod OpeningCodeLaws
 pub mod MakingCodeLaws
+pub mod TakingCodeLaws
 pub mod ReceivingCodeLaws
 pub mod RowCodeLaws
 pub mod RowMessageCodeLaws
+pub mod MadeLaws

@@ -143,7 +143,7 @@ module _ (e : Envelope) (words marks : List ℕ) (r : ℕ) where
   rowWords i = map (wordIn (rowOf e words r i)) (keptColumns e r)
 
   module _ (room : rowCount e words ≤ length marks) (h : r < relationCount e) where
-    sent-by : sentRows e words marks r ≡ map rowWords chosen
+    pub sent-by : sentRows e words marks r ≡ map rowWords chosen
     unfolding sentRows
     sent-by =
         ap (map (λ (row : Row). map (wordIn row) (keptColumns e r))) (kept-rows e words r marks room h)

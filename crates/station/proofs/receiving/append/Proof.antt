@@ -3,7 +3,7 @@ use borrow.Author.Needs.{needs}
 use Prim.Native.Nat.{_-_}
 use lib.ListN.{length}
 use Rattle.ground.proofs.PuttingLaws.{Copying, copying-start, copying-more}
-use Rattle.station.proofs.ReceivingCodeLaws.{append-place, append-done}
+use Rattle.station.proofs.TakingCodeLaws.{append-place, append-done}
 use native.Mathlib.Omega.{arith}
 use Rattle.station.proofs.receiving.append.Statement.{statement}
 use Rattle.station.proofs.receiving.append.Tie as tie

@@ -1,5 +1,5 @@
-use Rattle.station.proofs.ReceivingCodeLaws.{body-part, next-falls, next-late, next-early}
-use Rattle.station.proofs.ReceivingCodeLaws.{next-falls, next-late, next-early}
+use Rattle.station.proofs.TakingCodeLaws.{body-part, next-falls, next-late, next-early}
+use Rattle.station.proofs.TakingCodeLaws.{next-falls, next-late, next-early}
 use borrow.Author.Needs.{needs}
 use Rattle.station.proofs.receiving.not_next.Statement.{statement}
 use Rattle.station.proofs.receiving.not_next.Tie as tie

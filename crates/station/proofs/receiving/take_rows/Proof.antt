@@ -1,4 +1,4 @@
-use Rattle.station.proofs.ReceivingCodeLaws.{rows-elsewhere, rows-uncounted, rows-again, rows-longer, rows-behind, rows-stored}
+use Rattle.station.proofs.TakingCodeLaws.{rows-elsewhere, rows-uncounted, rows-again, rows-longer, rows-behind, rows-stored}
 use native.Mathlib.Omega.{arith}
 use borrow.Author.Needs.{needs}
 use Rattle.station.proofs.receiving.take_rows.Statement.{statement}

@@ -1,5 +1,5 @@
-use Rattle.station.proofs.ReceivingCodeLaws.{body-part}
-use Rattle.station.proofs.ReceivingCodeLaws.{values-more, values-eight, values-elsewhere, values-uncounted, values-other, values-fall, values-applied}
+use Rattle.station.proofs.TakingCodeLaws.{body-part}
+use Rattle.station.proofs.TakingCodeLaws.{values-more, values-eight, values-elsewhere, values-uncounted, values-other, values-fall, values-applied}
 use native.Mathlib.Omega.{arith}
 use borrow.Author.Needs.{needs}
 use Rattle.station.proofs.receiving.take_values.Statement.{statement}

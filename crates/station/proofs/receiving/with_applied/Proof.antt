@@ -1,4 +1,4 @@
-use Rattle.station.proofs.ReceivingCodeLaws.{applied-is}
+use Rattle.station.proofs.TakingCodeLaws.{applied-is}
 use borrow.Author.Needs.{needs}
 use Rattle.station.proofs.receiving.with_applied.Statement.{statement}
 use Rattle.station.proofs.receiving.with_applied.Tie as tie

@@ -1,4 +1,4 @@
-use Rattle.station.proofs.ReceivingCodeLaws.{arrived-is}
+use Rattle.station.proofs.TakingCodeLaws.{arrived-is}
 use borrow.Author.Needs.{needs}
 use Rattle.station.proofs.receiving.with_arrived.Statement.{statement}
 use Rattle.station.proofs.receiving.with_arrived.Tie as tie

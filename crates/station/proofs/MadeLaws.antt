@@ -1,0 +1,66 @@
+-- What an end makes is what an end takes: a value message that is made is sound, a row message has the rows that were sent.
+-- And an empty value message removes every row.
+use mathlib.Core.Path.{_≡_, refl, ap, sym, _∙_}
+use mathlib.Core.Bool.{Bool, true, false, _&&_}
+use mathlib.Core.List.{List, [], map}
+use Prim.Native.Nat.{ℕ, _≤_, _<_}
+use native.Mathlib.Omega.{arith}
+use lib.ListN.{length, length-map}
+use Rattle.ground.specs.Lists.{below}
+use Rattle.ground.proofs.EveryLaws.{every-of, every-mapped}
+use Rattle.ground.proofs.ListLaws.{filter-length}
+use Rattle.ground.proofs.NumbersLaws.{below-length}
+use Rattle.entries.specs.declared.places.Place.{Place}
+use Rattle.envelopes.specs.Parts.{relationCount}
+use Rattle.envelopes.specs.Kept.{keptColumns}
+use Rattle.envelopes.specs.declared.envelope.Envelope.{Envelope}
+use Rattle.papers.specs.Meaning.{Row, wordIn}
+use Rattle.semijoin.specs.Offsets.{countIn, rowCount}
+use Rattle.semijoin.specs.Shape.{shaped}
+use Rattle.semijoin.specs.Marks.{reducedBy}
+use Rattle.semijoin.specs.Values.{risingValues}
+use Rattle.semijoin.specs.Promise.{keptAt, rowOf}
+use Rattle.semijoin.proofs.ShapeLaws.{shaped-shape}
+use Rattle.semijoin.proofs.RisingLaws.{rising-exact}
+use Rattle.semijoin.proofs.PromiseLaws.{promise}
+use Rattle.station.specs.Messages.{valueMessage, rowMessage, counted, soundValues, rowsOf}
+use Rattle.station.specs.Making.{sentRows}
+use Rattle.station.proofs.MessageLaws.{Wide, value-sound, row-counted, row-rows}
+use Rattle.station.proofs.RowCodeLaws.{chosen, rowWords, sent-by}
+
+module _ (e : Envelope) (words marks : List ℕ) (shape : shaped e words ≡ true) where
+  pub values-sound : (run n : ℕ) (b : Place) → soundValues (valueMessage run n (risingValues e words marks b)) ≡ true
+  values-sound run n b =
+      value-sound run n (risingValues e words marks b)
+      (omega (arith, promise e .no-more words marks b, shaped-shape e words shape .few (b .relation)))
+      (rising-exact (risingValues e words marks b) .1 (promise e .rises words marks b))
+
+  module _ (room : rowCount e words ≤ length marks) (r : ℕ) (h : r < relationCount e) (run : ℕ) where
+    wide : Wide (length (keptColumns e r)) (sentRows e words marks r)
+    wide =
+        rw (sent-by e words marks r room h)
+        (every-mapped (λ (row : Row). length row ≡ length (keptColumns e r)) (rowWords e words marks r) (chosen e words marks r)
+        (every-of _ (chosen e words marks r) (λ i _. length-map (keptColumns e r) (wordIn (rowOf e words r i)))))
+
+    few : length (sentRows e words marks r) ≤ 4096
+    few =
+        omega (
+          arith,
+          ap (λ (l : List Row). length l) (sent-by e words marks r room h) ∙ length-map (chosen e words marks r) (rowWords e words marks r),
+          filter-length (keptAt e words marks r) (below (countIn e words r)),
+          below-length (countIn e words r),
+          shaped-shape e words shape .few r,
+        )
+
+    pub rows-counted : counted (length (keptColumns e r)) (rowMessage run r (sentRows e words marks r)) ≡ true
+    rows-counted = row-counted run r (sentRows e words marks r) (length (keptColumns e r)) wide few
+
+    pub rows-understood : rowsOf (length (keptColumns e r)) (rowMessage run r (sentRows e words marks r)) ≡ sentRows e words marks r
+    rows-understood = row-rows run r (sentRows e words marks r) (length (keptColumns e r)) wide
+
+and-none : (a : Bool) → (a && false) ≡ false
+and-none true = refl
+and-none false = refl
+
+pub none-kept : (e : Envelope) (words marks : List ℕ) (a : Place) (i : ℕ) → keptAt e words (reducedBy e words [] a marks) (a .relation) i ≡ false
+none-kept e words marks a i = promise e .exactly words [] marks a i ∙ and-none (keptAt e words marks (a .relation) i)

@@ -1,0 +1,264 @@
+-- What the returns of taking values and rows cite: an outcome as the answer, each refusal in its order, and the two effects.
+use mathlib.Core.Path.{_≡_, refl, ap, sym, _∙_}
+use mathlib.Core.Bool.{Bool, true, false, not}
+use mathlib.Core.List.{List}
+use Prim.Native.Nat.{ℕ, _+_, _≤_, _<_, _-_}
+use native.Mathlib.Omega.{arith}
+use lib.ListN.{length, getD, set, take, drop, length-drop}
+use lib.Seq.{sets, take-length, take-all}
+use lib.Dec.{ltb, eqb}
+use borrow.Author.Tests.{lt-ltb, le-ltb, eq-eqb, ne-eqb, not-true, not-false}
+use Rattle.ground.specs.Tests.{pick}
+use Rattle.ground.specs.Outcome.{Outcome, next, verdictOf}
+use Rattle.ground.specs.Outcome.Outcome.{good, bad}
+use Rattle.ground.specs.declared.Verdict.the-variants.{Taken, Refused}
+use Rattle.ground.proofs.CountLaws.{split}
+use Rattle.ground.proofs.PuttingLaws.{Copying, copying-length, copying-done}
+use Rattle.fields.specs.Refusals.{tooShort, notOurs, notSound, alreadyTaken, stepMissing}
+use Rattle.envelopes.specs.Sites.{isAt}
+use Rattle.envelopes.specs.Kept.{keptColumns, shownColumns}
+use Rattle.envelopes.specs.declared.envelope.Envelope.{Envelope}
+use Rattle.envelopes.specs.declared.kept.Columns.{Columns}
+use Rattle.papers.specs.Steps.{isPlace}
+use Rattle.papers.specs.declared.steps.Step.{Step}
+use Rattle.papers.specs.declared.checks.Papers.{Papers}
+use Rattle.papers.proofs.CheckLaws.{GoodPapers}
+use Rattle.semijoin.specs.Rising.{isRising}
+use Rattle.semijoin.specs.Marks.{reducedBy, reduceOutcome, reducedOf, marksAfter}
+use Rattle.semijoin.specs.declared.marks.Reduced.{Reduced}
+use Rattle.semijoin.specs.declared.marks.Reduced.the-variants as r
+use Rattle.station.specs.Reducing.{stepCount, stepOf, placeOf}
+use Rattle.station.specs.Calls.{leaves}
+use Rattle.station.specs.Ends.{Marked, Usable}
+use Rattle.station.specs.Messages.{counted, soundValues}
+use Rattle.station.specs.Receiving.{Stored, appliedTo, withApplied, withArrived, valuesTaken, rowsTaken, refusedBy, shownReceived}
+use Rattle.station.specs.declared.ends.End.{End}
+use Rattle.station.specs.declared.receiving.Received.{Received}
+use Rattle.station.proofs.ReducingLaws.{place-most}
+use Rattle.station.proofs.EndLaws.{step-legal, here-below}
+use Rattle.station.proofs.SemijoinCalls.{reduce-falls, reduce-rises}
+
+-- ---- an outcome as the answer
+
+module _ {A : Type 0} (end : A → End) (x : End) (o : Outcome A) where
+  pub shown-bad : (m p : ℕ) → o ≡ bad m p → refusedBy x m p ≡ shownReceived end x o
+  unfolding shownReceived verdictOf leaves
+  shown-bad m p e = ap (shownReceived end x) (sym e)
+
+  pub shown-good : (a : A) (p : ℕ) → o ≡ good a p → (y : End) → y ≡ end a → record { verdict = Taken; end = y } ≡ shownReceived end x o
+  unfolding shownReceived verdictOf leaves
+  shown-good a p e y f = rw f (ap (shownReceived end x) (sym e))
+
+  module _ {B : Type 0} (made : A → B) (before : B) where
+    pub left-bad : (m p : ℕ) → o ≡ bad m p → before ≡ leaves made before o
+    unfolding leaves
+    left-bad m p e = ap (leaves made before) (sym e)
+
+    pub left-good : (a : A) (p : ℕ) → o ≡ good a p → (after : B) → after ≡ made a → after ≡ leaves made before o
+    unfolding leaves
+    left-good a p e after f = f ∙ ap (leaves made before) (sym e)
+
+-- what a call does not touch stays
+pub stays : {A B : Type 0} (before : B) (o : Outcome A) → before ≡ leaves (λ (a : A). before) before o
+unfolding leaves
+stays before (good a p) = refl
+stays before (bad i p) = refl
+
+-- ---- the end afterwards
+
+pub applied-is : (x : End) (r n : ℕ)
+    → record {
+      envelope = x .envelope;
+      program = x .program;
+      site = x .site;
+      run = x .run;
+      applied = set (x .applied) r n;
+      arrived = x .arrived;
+      used = x .used;
+    }
+    ≡ appliedTo x r n
+unfolding appliedTo
+applied-is x r n = refl
+
+pub arrived-is : (x : End) (r n : ℕ)
+    → record {
+      envelope = x .envelope;
+      program = x .program;
+      site = x .site;
+      run = x .run;
+      applied = x .applied;
+      arrived = set (x .arrived) r true;
+      used = x .used + n;
+    }
+    ≡ withArrived x r n
+unfolding withArrived
+arrived-is x r n = refl
+
+-- ---- a message behind the words that are held
+
+module _ (m before : List ℕ) (used i p : ℕ) (out : List ℕ) (c : Copying m before used (length m) i p out) where
+  pub append-place : i < length m → used + length m ≤ length before → p < length out
+  append-place h r = omega (arith, c .place, copying-length m before used (length m) i p out c)
+
+  pub append-done : length m ≤ i → out ≡ sets before used m
+  append-done h = copying-done m before used (length m) i p out c h ∙ ap (sets before used) (take-length m)
+
+-- ---- a step that is not the next
+
+-- the words behind the three in front, as they are lent
+pub body-part : (m : List ℕ) → take (length m - 3) (drop 3 m) ≡ drop 3 m
+body-part m = take-all (length m - 3) (drop 3 m) (omega (arith, length-drop 3 m))
+
+module _ (m by : List ℕ) (p : by ≡ drop 3 m) (place done : ℕ) (b : Bool) (g : b ≡ isRising by) where
+  f : b ≡ isRising (drop 3 m)
+  f = g ∙ ap isRising p
+
+  pub next-falls : not b ≡ true → _≡_ {A = ℕ} 15 (pick (not (isRising (drop 3 m))) 15 (pick (ltb place done) 16 17))
+  next-falls t = rw (← f, t)
+
+  pub next-late : not b ≡ false → place < done → _≡_ {A = ℕ} 16 (pick (not (isRising (drop 3 m))) 15 (pick (ltb place done) 16 17))
+  next-late t h = rw (← f, t, lt-ltb place done h)
+
+  pub next-early : not b ≡ false → done ≤ place → _≡_ {A = ℕ} 17 (pick (not (isRising (drop 3 m))) 15 (pick (ltb place done) 16 17))
+  next-early t h = rw (← f, t, le-ltb place done h)
+
+-- ---- values
+
+-- no count of applied steps wraps, and the relation has its place among eight
+pub values-more : (q : Papers) → GoodPapers q → (n r : ℕ) → n < stepCount (q .program) → (place done : ℕ) → place ≡ placeOf (q .program) r n
+    → place ≡ done → done + 1 ≤ 157
+values-more q g n r l place done i same =
+    omega (arith, place-most (q .program) n r, g .acceptable .whole, g .acceptable .count)
+
+pub values-eight : (e : Envelope) (site r : ℕ) (b : Bool) → b ≡ isAt e site r → not b ≡ false → r < 8
+values-eight e site r b f t = omega (arith, here-below e site r (sym f ∙ not-false b t))
+
+module _ (q : Papers) (x : End) (words marks m : List ℕ) (n : ℕ) (u : Usable q words (length marks)) (l : n < stepCount (q .program))
+    (s : Step) (e : s ≡ stepOf (q .program) n) (b : Bool) (f : b ≡ isAt (q .envelope) (x .site) (s .left .relation)) where
+  abbrev outcome : Outcome Marked
+  outcome = valuesTaken q x words marks m n
+
+  abbrev Takes : Received → List ℕ → Type 0
+  Takes z after =
+      (z ≡ shownReceived (λ (s : Marked). s .end) x outcome) × (after ≡ leaves (λ (s : Marked). s .marks) marks outcome)
+
+  takes-bad : (i p : ℕ) → outcome ≡ bad i p → Takes (refusedBy x i p) marks
+  takes-bad i p k = (shown-bad (λ (s : Marked). s .end) x outcome i p k, left-bad (λ (s : Marked). s .end) x outcome (λ (s : Marked). s .marks) marks i p k)
+
+  pub values-elsewhere : not b ≡ true → (z : Received) → z ≡ refusedBy x notOurs 0 → Takes z marks
+  unfolding valuesTaken
+  values-elsewhere t z k = rw k (takes-bad notOurs 0 (rw (← e, ← f, t)))
+
+  module _ (t : not b ≡ false) (d : Bool) (c : d ≡ counted 1 m) where
+    pub values-uncounted : not d ≡ true → (z : Received) → z ≡ refusedBy x notSound 0 → Takes z marks
+    unfolding valuesTaken soundValues
+    values-uncounted h z k = rw k (takes-bad notSound 0 (rw (← e, ← f, t, ← c, not-true d h)))
+
+    module _ (h : not d ≡ false) (place done : ℕ) (i : place ≡ placeOf (q .program) (s .left .relation) n)
+        (j : done ≡ getD (x .applied) (s .left .relation) 0) where
+      -- what comes before 16 and 17
+      sound-by : soundValues m ≡ isRising (drop 3 m)
+      unfolding soundValues
+      sound-by = rw (← c, not-false d h)
+
+      pub values-other : (place ≡ done → ⊥) → (k : ℕ) → k ≡ pick (not (isRising (drop 3 m))) 15 (pick (ltb place done) 16 17) → (z : Received)
+          → z ≡ refusedBy x k 0 → Takes z marks
+      unfolding valuesTaken
+      values-other ne k g z y = rw (y, g) (go (isRising (drop 3 m)) refl)
+        where
+          go : (rising : Bool) → isRising (drop 3 m) ≡ rising
+              → Takes (refusedBy x (pick (not rising) 15 (pick (ltb place done) 16 17)) 0) marks
+          go false a = takes-bad notSound 0 (rw (← e, ← f, t, sound-by, a))
+          go true a =
+              split done place
+              (λ o.
+              let p : done < place = omega (arith, ne) in
+              rw (le-ltb place done o)
+              (takes-bad stepMissing 0 (rw (← e, ← f, t, sound-by, a, ← i, ← j, le-ltb place done o, lt-ltb done place p))))
+              (λ o. rw (lt-ltb place done o) (takes-bad alreadyTaken 0 (rw (← e, ← f, t, sound-by, a, ← i, ← j, lt-ltb place done o))))
+
+      module _ (same : place ≡ done) (by : List ℕ) (body : by ≡ drop 3 m) (removed : ℕ) (y : Reduced) (after : List ℕ)
+          (g : y ≡ reducedOf removed (reduceOutcome (q .envelope) (s .left) words by marks))
+          (k : after ≡ marksAfter marks (reduceOutcome (q .envelope) (s .left) words by marks)) where
+        here : isPlace (q .envelope) (s .left) ≡ true
+        here = rw e (step-legal q (u .papers) n l .left)
+
+        pub values-fall : (i p : ℕ) → y ≡ r.Refused i p → (z : Received) → z ≡ refusedBy x i p → Takes z after
+        unfolding valuesTaken
+        values-fall i p o z w =
+            let (falls, a, v, stays) =
+            reduce-falls (q .envelope) words (u .shape) marks (u .room) (s .left) here by removed y after g k i p o in
+            rw (w, a, v, stays) (takes-bad notSound 0 (rw (← e, ← f, t, sound-by, ← body, falls)))
+
+        pub values-applied : (v : ℕ) → y ≡ r.Rows v → (a : End) → a ≡ appliedTo x (s .left .relation) (done + 1)
+            → Takes (record { verdict = Taken; end = a }) after
+        unfolding valuesTaken withApplied
+        values-applied v o a w =
+            let (rises, marked) =
+            reduce-rises (q .envelope) words (u .shape) marks (u .room) (s .left) here by removed y after g k v o in
+            let found
+            : outcome
+            ≡ good
+            (record { end = withApplied x (s .left .relation); marks = reducedBy (q .envelope) words (drop 3 m) (s .left) marks })
+            0 =
+            rw (← e, ← f, t, sound-by, ← body, rises, ← i, ← j, le-ltb place done (omega arith), le-ltb done place (omega arith)) in (
+              shown-good (λ (s : Marked). s .end) x outcome _ 0 found a (w ∙ rw j),
+              left-good (λ (s : Marked). s .end) x outcome (λ (s : Marked). s .marks) marks _ 0 found after
+                  (marked ∙ ap (λ (l : List ℕ). reducedBy (q .envelope) words l (s .left) marks) body),
+            )
+
+-- ---- rows
+
+module _ (q : Papers) (x : End) (store m : List ℕ) (relation : ℕ) where
+  abbrev rowsOutcome : Outcome Stored
+  rowsOutcome = rowsTaken q x store m relation
+
+  abbrev Stores : Received → List ℕ → Type 0
+  Stores z after =
+      (z ≡ shownReceived (λ (s : Stored). s .end) x rowsOutcome) × (after ≡ leaves (λ (s : Stored). s .store) store rowsOutcome)
+
+  stores-bad : (i p : ℕ) → rowsOutcome ≡ bad i p → Stores (refusedBy x i p) store
+  stores-bad i p k =
+      (shown-bad (λ (s : Stored). s .end) x rowsOutcome i p k, left-bad (λ (s : Stored). s .end) x rowsOutcome (λ (s : Stored). s .store) store i p k)
+
+  pub rows-elsewhere : (x .site ≡ q .program .site → ⊥) → (z : Received) → z ≡ refusedBy x notOurs 0 → Stores z store
+  unfolding rowsTaken
+  rows-elsewhere h z k = rw k (stores-bad notOurs 0 (rw (ne-eqb (x .site) (q .program .site) h)))
+
+  module _ (h : x .site ≡ q .program .site) (c : Columns) (d : c ≡ shownColumns (keptColumns (q .envelope) relation)) (b : Bool)
+      (f : b ≡ counted (c .count) m) where
+    sound : b ≡ counted (length (keptColumns (q .envelope) relation)) m
+    sound = f ∙ ap (λ (k : Columns). counted (k .count) m) d
+
+    ours : eqb (x .site) (q .program .site) ≡ true
+    ours = eq-eqb (x .site) (q .program .site) h
+
+    pub rows-uncounted : not b ≡ true → (z : Received) → z ≡ refusedBy x notSound 0 → Stores z store
+    unfolding rowsTaken
+    rows-uncounted t z k = rw k (stores-bad notSound 0 (rw (ours, ← sound, t)))
+
+    module _ (t : not b ≡ false) where
+      pub rows-again : getD (x .arrived) relation false ≡ true → (z : Received) → z ≡ refusedBy x alreadyTaken 0 → Stores z store
+      unfolding rowsTaken
+      rows-again a z k = rw k (stores-bad alreadyTaken 0 (rw (ours, ← sound, t, a)))
+
+      module _ (a : getD (x .arrived) relation false ≡ false) where
+        pub rows-short : length store < x .used + length m → (z : Received) → z ≡ refusedBy x tooShort 0 → Stores z store
+        unfolding rowsTaken
+        rows-short o z k = rw k (stores-bad tooShort 0 (rw (ours, ← sound, t, a, lt-ltb (length store) (x .used + length m) o)))
+
+        pub rows-longer : length store < length m → (z : Received) → z ≡ refusedBy x tooShort 0 → Stores z store
+        rows-longer o = rows-short (omega arith)
+
+        pub rows-behind : length m ≤ length store → length store - length m < x .used → (z : Received) → z ≡ refusedBy x tooShort 0 → Stores z store
+        rows-behind o p = rows-short (omega arith)
+
+        pub rows-stored : length m ≤ length store → x .used ≤ length store - length m → (after : List ℕ) → after ≡ sets store (x .used) m → (y : End)
+            → y ≡ withArrived x relation (length m) → Stores (record { verdict = Taken; end = y }) after
+        unfolding rowsTaken
+        rows-stored o p after w y v =
+            let found : rowsOutcome ≡ good (record { end = withArrived x relation (length m); store = sets store (x .used) m }) 0 =
+            rw (ours, ← sound, t, a, le-ltb (length store) (x .used + length m) (omega arith)) in (
+              shown-good (λ (s : Stored). s .end) x rowsOutcome _ 0 found y v,
+              left-good (λ (s : Stored). s .end) x rowsOutcome (λ (s : Stored). s .store) store _ 0 found after w,
+            )
