@@ -1,5 +1,6 @@
 -- The laws of the answer.
 pub mod Examples
+pub mod StoreExamples
 pub mod EachLaws
 pub mod BeginningLaws
 pub mod SourceLaws
