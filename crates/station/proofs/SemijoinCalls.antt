@@ -149,12 +149,12 @@ module _ (e : Envelope) (words : List ℕ) (shape : shaped e words ≡ true) (ma
             go true s a b = let z : _≡_ {A = ℕ} 0 1 = cc in absurd (never z)
             go false s a b = (s, cc, cc, b)
 
-        pub reduce-rises : (i : ℕ) → x ≡ r.Rows i → (isRising by ≡ true) × (after ≡ reducedBy e words by a marks)
+        pub reduce-rises : (i : ℕ) → x ≡ r.Removed i → (isRising by ≡ true) × (after ≡ reducedBy e words by a marks)
         unfolding reducedOf marksAfter
         reduce-rises i h = go (isRising by) refl (sym h ∙ f ∙ ap (reducedOf n) reduce-left) (k ∙ ap (marksAfter marks) reduce-left)
           where
             go : (b : Bool) → isRising by ≡ b
-                → r.Rows i ≡ reducedOf n (pick (not b) (bad notSound 0) (good (reducedBy e words by a marks) 0))
+                → r.Removed i ≡ reducedOf n (pick (not b) (bad notSound 0) (good (reducedBy e words by a marks) 0))
                 → after ≡ marksAfter marks (pick (not b) (bad notSound 0) (good (reducedBy e words by a marks) 0))
                 → (isRising by ≡ true) × (after ≡ reducedBy e words by a marks)
             go true s a b = (s, b)

@@ -136,7 +136,7 @@ fn take_values(
     let reduced = semijoin::marks::reduce_by(envelope, left, tables, &message[3..], marks);
     match reduced {
         Reduced::Refused { number, position } => refused(end, number, position),
-        Reduced::Rows(removed) => {
+        Reduced::Removed(removed) => {
             let after = with_applied(end, left.relation, done + 1);
             Received {
                 verdict: Verdict::Taken,
