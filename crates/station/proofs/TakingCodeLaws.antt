@@ -190,7 +190,7 @@ module _ (q : Papers) (x : End) (words marks m : List ℕ) (n : ℕ) (u : Usable
             reduce-falls (q .envelope) words (u .shape) marks (u .room) (s .left) here by removed y after g k i p o in
             rw (w, a, v, stays) (takes-bad notSound 0 (rw (← e, ← f, t, sound-by, ← body, falls)))
 
-        pub values-applied : (v : ℕ) → y ≡ r.Rows v → (a : End) → a ≡ appliedTo x (s .left .relation) (done + 1)
+        pub values-applied : (v : ℕ) → y ≡ r.Removed v → (a : End) → a ≡ appliedTo x (s .left .relation) (done + 1)
             → Takes (record { verdict = Taken; end = a }) after
         unfolding valuesTaken withApplied
         values-applied v o a w =
