@@ -10,3 +10,7 @@ pub mod FittingLaws
 pub mod CombinationCodeLaws
 pub mod AnswerLaws
 pub mod AnswerCodeLaws
+pub mod StoreLaws
+pub mod WalkingLaws
+pub mod StoreCodeLaws
+pub mod AssemblyCodeLaws

@@ -1,0 +1,297 @@
+// Station ends, run: each line that is printed is how one call is answered, each refusal number that opening, making and
+// receiving can give among them, and under it what was lent, as it is afterwards. A run at two sites: relation 0 at site 1,
+// relation 1 at site 2, joined on their first columns; steps 0 and 2 reduce relation 0, step 1 relation 1.
+use entries::clauses::Clause;
+use entries::clauses::ClauseKind;
+use entries::places::Place;
+use envelopes::envelope::Envelope;
+use ground::Verdict;
+use papers::programs::Program;
+use papers::steps::Step;
+use station::ends::End;
+use station::making::Made;
+
+const RUN: u32 = 5;
+
+// The tables at site 1: relation 0 has the rows (1, 7) and (2, 8).
+const HERE: [u32; 6] = [2, 0, 1, 7, 2, 8];
+
+fn print_verdict(what: &[u8], verdict: Verdict) {
+    io::write_all(1, what);
+    match verdict {
+        Verdict::Taken => {
+            io::write_all(1, b": taken\n");
+        }
+        Verdict::Refused { number, position } => {
+            io::write_all(1, b": refused ");
+            io::print_decimal(1, number as u64);
+            io::write_all(1, b" ");
+            io::print_decimal(1, position as u64);
+            io::write_all(1, b"\n");
+        }
+    }
+}
+
+fn print_byte(value: u8) {
+    io::print_decimal(1, value as u64);
+}
+
+fn print_word(value: u32) {
+    io::print_decimal(1, value as u64);
+}
+
+fn print_marks(marks: &[u8]) {
+    io::write_all(1, b"  marks");
+    let mut i: usize = 0;
+    while i < marks.len() {
+        io::write_all(1, b" ");
+        print_byte(marks[i]);
+        i += 1;
+    }
+    io::write_all(1, b"\n");
+}
+
+fn print_words(what: &[u8], words: &[u32]) {
+    io::write_all(1, what);
+    let mut i: usize = 0;
+    while i < words.len() {
+        io::write_all(1, b" ");
+        print_word(words[i]);
+        i += 1;
+    }
+    io::write_all(1, b"\n");
+}
+
+// Domains of 10 and 20; relation 0 with a column of each, relation 1 with a column of the first; a join; a target.
+fn small() -> Envelope {
+    let read = envelopes::reading::read_envelope(
+        b"CPN\x01\x00\x02\x0a\x00\x00\x00\x14\x00\x00\x00\x02\x01\x02\x05\x00\x00\x00\x00\x01\x05\x00\x00\x00\x01\x02\x03\x00\x00\x00\x02\x01\x05\x00\x00\x00\x00\x04\x02\x00\x00\x00\x01\x02\x00\x00\x01\x00\x01\x00\x01",
+    );
+    read.envelope
+}
+
+fn place(relation: u8, column: u8) -> Place {
+    Place { relation, column }
+}
+
+fn step(left: u8, right: u8) -> Step {
+    Step {
+        left: place(left, 0),
+        right: place(right, 0),
+    }
+}
+
+fn three() -> Program {
+    let mut steps = [step(0, 1); 156];
+    steps[1] = step(1, 0);
+    Program {
+        site: 1,
+        count: 3,
+        steps: steps,
+    }
+}
+
+// ---- opening
+
+fn opening(what: &[u8], envelope: Envelope, program: Program, site: u32, tables: &[u32]) {
+    let mut marks = [9u8; 3];
+    let opened = station::opening::open(envelope, program, site, RUN, tables, &mut marks);
+    let verdict = opened.verdict;
+    print_verdict(what, verdict);
+    print_marks(&marks);
+}
+
+fn joined(what: &[u8], left: Place, right: Place) {
+    let here = HERE;
+    let mut envelope = small();
+    let clause = Clause {
+        kind: ClauseKind::Join { left, right },
+    };
+    envelope.clauses = [clause; 12];
+    opening(what, envelope, three(), 1, &here);
+}
+
+fn stepped(what: &[u8], site: u8, left: u8, right: u8) {
+    let here = HERE;
+    let program = Program {
+        site: site,
+        count: 1,
+        steps: [step(left, right); 156],
+    };
+    opening(what, small(), program, 1, &here);
+}
+
+fn versioned(what: &[u8], version: u16, clauses: u8) {
+    let here = HERE;
+    let mut envelope = small();
+    envelope.version = version;
+    envelope.clause_count = clauses;
+    opening(what, envelope, three(), 1, &here);
+}
+
+fn openings() {
+    let here = HERE;
+    opening(b"open", small(), three(), 1, &here);
+    opening(b"open where nothing is", small(), three(), 3, &here);
+    versioned(b"open by another version", 2, 1);
+    joined(
+        b"open by a column that is not there",
+        place(0, 2),
+        place(1, 0),
+    );
+    joined(b"open by a join of two domains", place(0, 1), place(1, 0));
+    joined(
+        b"open by a join of a column with itself",
+        place(1, 0),
+        place(1, 0),
+    );
+    stepped(b"open with a step that is not legal", 1, 1, 1);
+    stepped(b"open with assembly where nothing is", 3, 0, 1);
+    versioned(b"open with no kept column", 1, 0);
+    let short = [2u32, 0, 1];
+    opening(b"open on tables cut short", small(), three(), 1, &short);
+    opening(b"open at site 8", small(), three(), 8, &here);
+    opening(b"open at site 257", small(), three(), 257, &here);
+    let mut one = [9u8; 1];
+    let opened = station::opening::open(small(), three(), 1, RUN, &here, &mut one);
+    let verdict = opened.verdict;
+    print_verdict(b"open with one mark", verdict);
+    print_marks(&one);
+}
+
+fn opened() -> End {
+    let here = HERE;
+    let mut marks = [9u8; 3];
+    let opened = station::opening::open(small(), three(), 1, RUN, &here, &mut marks);
+    opened.end
+}
+
+// ---- receiving
+
+fn print_applied(applied: [u32; 8]) {
+    print_words(b"  applied", &applied);
+}
+
+fn receiving(what: &[u8], end: End, message: &[u32]) -> End {
+    let here = HERE;
+    let mut marks = [5u8, 7];
+    let mut store = [9u32; 4];
+    let received = station::receiving::receive(end, &here, &mut marks, &mut store, message);
+    let verdict = received.verdict;
+    let after = received.end;
+    let applied = after.applied;
+    print_verdict(what, verdict);
+    print_marks(&marks);
+    print_words(b"  store", &store);
+    print_applied(applied);
+    after
+}
+
+fn refusals(end: End) {
+    receiving(b"receive two words", end, &[5u32, 0]);
+    receiving(b"receive of another run", end, &[6u32, 0, 0]);
+    receiving(b"receive for another site", end, &[5u32, 1, 0]);
+    receiving(b"receive of no such step", end, &[5u32, 3, 0]);
+    receiving(b"receive of no such relation", end, &[5u32, 258, 0]);
+    receiving(b"receive too few words", end, &[5u32, 0, 2, 3]);
+    receiving(b"receive values that do not rise", end, &[5u32, 0, 2, 3, 3]);
+    receiving(b"receive a count above 4,096", end, &[5u32, 0, 4097]);
+    receiving(
+        b"receive with an earlier step missing",
+        end,
+        &[5u32, 2, 1, 2],
+    );
+    receiving(b"receive rows that do not fit", end, &[5u32, 256, 1, 1, 7]);
+}
+
+fn receivings(end: End) -> End {
+    refusals(end);
+    receiving(b"receive no value", end, &[5u32, 0, 0]);
+    let first = receiving(b"receive step 0", end, &[5u32, 0, 1, 2]);
+    rows(b"make rows with step 2 missing", first, 0);
+    receiving(b"receive step 0 again", first, &[5u32, 0, 1, 2]);
+    let rows = receiving(b"receive rows of relation 1", first, &[5u32, 257, 1, 2]);
+    receiving(b"receive them again", rows, &[5u32, 257, 1, 2]);
+    let second = receiving(b"receive step 2", first, &[5u32, 2, 1, 2]);
+    second
+}
+
+fn unsound() {
+    let end = opened();
+    let mut many = end;
+    many.applied = [3u32; 8];
+    receiving(
+        b"receive with more applied than there are",
+        many,
+        &[5u32, 0, 0],
+    );
+    let mut marks = [1u8; 1];
+    let mut store = [0u32; 4];
+    let here = HERE;
+    let received = station::receiving::receive(end, &here, &mut marks, &mut store, &[5u32, 0, 0]);
+    let verdict = received.verdict;
+    print_verdict(b"receive with one mark", verdict);
+    print_marks(&marks);
+    let short = [2u32, 0, 1];
+    let other = station::receiving::receive(end, &short, &mut marks, &mut store, &[5u32, 0, 0]);
+    let found = other.verdict;
+    print_verdict(b"receive on tables cut short", found);
+    print_marks(&marks);
+}
+
+// ---- making
+
+fn print_made(what: &[u8], made: Made, message: &[u32]) {
+    match made {
+        Made::Length(n) => {
+            io::write_all(1, what);
+            io::write_all(1, b": made ");
+            io::print_decimal(1, n as u64);
+            io::write_all(1, b"\n");
+        }
+        Made::Refused { number, position } => {
+            print_verdict(what, Verdict::Refused { number, position });
+        }
+    }
+    print_words(b"  message", message);
+}
+
+fn values(what: &[u8], end: End, number: u32) {
+    let here = HERE;
+    let marks = [0u8, 1];
+    let mut message = [9u32; 5];
+    let made = station::making::make_values(end, &here, &marks, number, &mut message);
+    print_made(what, made, &message);
+}
+
+fn rows(what: &[u8], end: End, relation: u32) {
+    let here = HERE;
+    let marks = [0u8, 1];
+    let mut message = [9u32; 6];
+    let made = station::making::make_rows(end, &here, &marks, relation, &mut message);
+    print_made(what, made, &message);
+}
+
+fn makings(end: End, last: End) {
+    values(b"make step 1 with step 0 missing", end, 1);
+    values(b"make step 0 for another site", end, 0);
+    values(b"make no such step", end, 3);
+    values(b"make step 1", last, 1);
+    rows(b"make rows with step 0 missing", end, 0);
+    rows(b"make rows of another site", last, 1);
+    rows(b"make rows of no such relation", last, 256);
+    rows(b"make rows of relation 0", last, 0);
+    let here = HERE;
+    let marks = [0u8, 1];
+    let mut message = [9u32; 4];
+    let made = station::making::make_rows(last, &here, &marks, 0, &mut message);
+    print_made(b"make rows that do not fit", made, &message);
+}
+
+fn main() {
+    openings();
+    let end = opened();
+    let last = receivings(end);
+    unsound();
+    makings(end, last);
+}
