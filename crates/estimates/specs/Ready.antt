@@ -1,5 +1,5 @@
 -- What the functions behind the checks go by: an envelope that was taken, prices that are at most 1, and the profile behind
--- local operations. "Arithmetic in 64 bits" then never wraps.
+-- local operations. Then no sum or product passes 64 bits.
 use mathlib.Core.Path.{_≡_}
 use Prim.Native.Nat.{ℕ, _≤_}
 use lib.ListN.{getD}

@@ -6,10 +6,8 @@ use entries::relations::Relation;
 use envelopes::envelope::Envelope;
 use papers::steps::Step;
 ghost use mathlib.Core.Path.{_≡_};
-ghost use mathlib.Core.List.{map};
 ghost use Prim.Native.Nat.{ℕ, _/_, _%_, _≤_, _<_};
 ghost use lib.ListN.{getD, set};
-ghost use Rattle.ground.specs.Lists.{below};
 ghost use Rattle.entries.specs.Relations.{noColumn, pastRelation};
 ghost use Rattle.entries.specs.Places.{place};
 ghost use Rattle.envelopes.specs.Parts.{relationsOf};
@@ -156,20 +154,6 @@ pub(crate) fn given(envelope: Envelope) -> Profile
         rows: rows,
         counts: counts,
     }
-}
-
-// The widths of all relations.
-pub(crate) fn widths_of(envelope: Envelope) -> [u64; 8]
-    ensures { λ r. ⌜ r ≡ map (widthOf envelope) (below 8) ⌝ }
-{
-    let mut out = [0u64; 8];
-    let mut relation: u8 = 0;
-    while relation < 8 {
-        let slot = relation as usize;
-        out[slot] = width_of(envelope, relation);
-        relation += 1;
-    }
-    out
 }
 
 // The rows of a relation; 0 where there is no such relation.

@@ -1,6 +1,6 @@
 -- "Value message .. can be made when every earlier step reducing S has been applied." "Row message .. can be made when all
--- steps reducing that relation have been applied." "Making: 10, 11 (marks), 14, 12, 11 (message)." "Making .. starts at the front of
--- the lent buffer, returns the length written and leaves the rest."
+-- steps reducing that relation have been applied." "Making: 10, 11 (marks), 14, 12, 11 (message)." "Making,
+-- answering and writing start at the front of the lent buffer, return the length written and leave the rest."
 use Prim.Native.Nat.{ℕ}
 use mathlib.Core.Bool.{Bool, _&&_, not}
 use mathlib.Core.List.{List, [], _∷_, _++_, map}

@@ -1,5 +1,5 @@
 // The words of messages: what the second word speaks of, whether there are as many words as the count says, and the three
-// words in front. Nothing else knows them.
+// words in front.
 ghost use mathlib.Core.Path.{_≡_};
 ghost use mathlib.Core.List.{[], _∷_};
 ghost use Prim.Native.Nat.{_≤_, _<_};
