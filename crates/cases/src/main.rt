@@ -5,7 +5,7 @@ use envelopes::envelope::Envelope;
 use fields::puts::Written;
 use ground::Verdict;
 use papers::programs::Program;
-use papers::steps::Step;
+use paths::steps::Step;
 
 // Domains of 10 and 20; relation 0 at site 1 with 5 rows and a column of each domain, relation 1 at site 2 with 5 rows
 // and a column of the first; a join of the two; a target.

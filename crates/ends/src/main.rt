@@ -7,7 +7,7 @@ use entries::places::Place;
 use envelopes::envelope::Envelope;
 use ground::Verdict;
 use papers::programs::Program;
-use papers::steps::Step;
+use paths::steps::Step;
 use station::ends::End;
 use station::making::Made;
 

@@ -21,14 +21,14 @@ use Rattle.entries.specs.Places.{place, samePlace}
 use Rattle.envelopes.specs.Rules.{Within}
 use Rattle.entries.specs.declared.places.Place.{Place}
 use Rattle.envelopes.specs.declared.envelope.Envelope.{Envelope}
-use Rattle.papers.specs.Labels.{labelsOf, byLabels}
-use Rattle.papers.specs.Steps.{step, legalBy, legal, LegalStep, legalSteps, PlaceBefore, StepBefore}
+use Rattle.paths.specs.Labels.{labelsOf, byLabels}
+use Rattle.paths.specs.Steps.{step, legalBy, legal, LegalStep, legalSteps, PlaceBefore, StepBefore}
 use Rattle.papers.specs.Programs.{noStep}
-use Rattle.papers.specs.declared.labels.Labels.{Labels}
-use Rattle.papers.specs.declared.steps.Step.{Step}
-use Rattle.papers.proofs.LabelLaws.{place-node}
-use Rattle.papers.proofs.StepLaws.{legal-step, legal-by-labels, legal-member, legal-ordered}
-use Rattle.papers.proofs.StepCountLaws.{legal-few}
+use Rattle.paths.specs.declared.labels.Labels.{Labels}
+use Rattle.paths.specs.declared.steps.Step.{Step}
+use Rattle.paths.proofs.LabelLaws.{place-node}
+use Rattle.paths.proofs.StepLaws.{legal-step, legal-by-labels, legal-member, legal-ordered}
+use Rattle.paths.proofs.StepCountLaws.{legal-few}
 use Rattle.estimates.specs.Plan.{sameStep}
 use Rattle.estimates.specs.Candidates.{shownSteps}
 use Rattle.estimates.specs.declared.candidates.Steps.{Steps}

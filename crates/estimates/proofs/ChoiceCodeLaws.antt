@@ -16,11 +16,11 @@ use Rattle.ground.proofs.UsedLaws.{used-inside}
 use Rattle.ground.proofs.ChoiceLaws.{greatest-first}
 use Rattle.ground.proofs.CollectingLaws.{Collecting, collecting-start, collecting-push, padded-take, padded-inside}
 use Rattle.envelopes.specs.declared.envelope.Envelope.{Envelope}
-use Rattle.papers.specs.Steps.{legal, legalSteps}
+use Rattle.paths.specs.Steps.{legal, legalSteps}
 use Rattle.papers.specs.Programs.{noStep}
-use Rattle.papers.specs.declared.steps.Step.{Step}
-use Rattle.papers.proofs.StepLaws.{legal-member}
-use Rattle.papers.proofs.StepCountLaws.{legal-few}
+use Rattle.paths.specs.declared.steps.Step.{Step}
+use Rattle.paths.proofs.StepLaws.{legal-member}
+use Rattle.paths.proofs.StepCountLaws.{legal-few}
 use Rattle.estimates.specs.Profile.{rowsAfter, afterStep, localProfile}
 use Rattle.estimates.specs.Choice.{Kind, gain, without, greedy, afterAll}
 use Rattle.estimates.specs.Plan.{sameStep, kindOf, greedySteps}

@@ -14,7 +14,7 @@ use Rattle.envelopes.specs.Parts.{relationCount}
 use Rattle.envelopes.specs.Sites.{siteOf}
 use Rattle.entries.specs.declared.relations.Column.{Column}
 use Rattle.envelopes.specs.declared.envelope.Envelope.{Envelope}
-use Rattle.papers.specs.declared.steps.Step.{Step}
+use Rattle.paths.specs.declared.steps.Step.{Step}
 use Rattle.estimates.specs.Profile.{columnOf, widthOf, rowsOf, countOf, rowsAfter, benefit}
 use Rattle.estimates.specs.Costs.{plainCosts, priced, stepCost, assemblyAt}
 use Rattle.estimates.specs.declared.profiles.Profile.{Profile}

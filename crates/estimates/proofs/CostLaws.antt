@@ -21,10 +21,10 @@ use Rattle.envelopes.specs.Kept.{kept, keptColumns}
 use Rattle.envelopes.specs.Rules.{Within}
 use Rattle.envelopes.specs.declared.envelope.Envelope.{Envelope}
 use Rattle.envelopes.proofs.PartLaws.{columns-outside}
-use Rattle.papers.specs.Steps.{isPlace, legal, LegalStep}
-use Rattle.papers.specs.declared.steps.Step.{Step}
-use Rattle.papers.proofs.LabelLaws.{in-place, columns-few}
-use Rattle.papers.proofs.StepLaws.{legal-step}
+use Rattle.paths.specs.Steps.{isPlace, legal, LegalStep}
+use Rattle.paths.specs.declared.steps.Step.{Step}
+use Rattle.paths.proofs.LabelLaws.{in-place, columns-few}
+use Rattle.paths.proofs.StepLaws.{legal-step}
 use Rattle.estimates.specs.Profile.{columnOf, widthOf, rowsOf, rowsAfter, benefit}
 use Rattle.estimates.specs.Costs.{plainCosts, priced, stepCost, assemblyAt}
 use Rattle.estimates.specs.Choice.{Kind, afterAll, total}

@@ -18,9 +18,9 @@ use Rattle.ground.proofs.ListLaws.{filter-length}
 use Rattle.ground.proofs.NumbersLaws.{below-length, below-from}
 use Rattle.envelopes.specs.Sites.{holds}
 use Rattle.envelopes.specs.declared.envelope.Envelope.{Envelope}
-use Rattle.papers.specs.Steps.{legal}
+use Rattle.paths.specs.Steps.{legal}
 use Rattle.papers.specs.Programs.{noStep, stepsOf, programWith, Acceptable}
-use Rattle.papers.specs.declared.steps.Step.{Step}
+use Rattle.paths.specs.declared.steps.Step.{Step}
 use Rattle.papers.specs.declared.programs.Program.{Program}
 use Rattle.estimates.specs.Profile.{localProfile}
 use Rattle.estimates.specs.Choice.{Kind, stepsAt, dropped, total}

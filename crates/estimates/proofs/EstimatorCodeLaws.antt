@@ -18,7 +18,7 @@ use Rattle.envelopes.specs.declared.reading.EnvelopeRead.{EnvelopeRead}
 use Rattle.envelopes.proofs.ReadingLaws.{read-refused, read-taken}
 use Rattle.envelopes.proofs.ExactEnvelope.{check-sound}
 use Rattle.papers.specs.Programs.{noStep, stepsOf, readProgram, programAgainst, programBytes, checkProgram, shownProgram, Acceptable}
-use Rattle.papers.specs.declared.steps.Step.{Step}
+use Rattle.paths.specs.declared.steps.Step.{Step}
 use Rattle.papers.specs.declared.programs.Program.{Program}
 use Rattle.papers.specs.declared.programs.ProgramRead.{ProgramRead}
 use Rattle.papers.proofs.ProgramCodeLaws.{program-taken, program-refused}

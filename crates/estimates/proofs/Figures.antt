@@ -21,10 +21,10 @@ use Rattle.entries.specs.declared.relations.Relation.{Relation}
 use Rattle.entries.specs.declared.clauses.Clause.{Clause}
 use Rattle.entries.specs.declared.clauses.ClauseKind.the-variants.{Selection, Join}
 use Rattle.envelopes.specs.declared.envelope.Envelope.{Envelope}
-use Rattle.papers.specs.Paths.{edges, onPath}
-use Rattle.papers.specs.Steps.{step, places, isPlace, legalBy, legalSteps}
-use Rattle.papers.specs.Implied.{constantsOf, selectionsBy}
-use Rattle.papers.specs.declared.steps.Step.{Step}
+use Rattle.paths.specs.Paths.{edges, onPath}
+use Rattle.paths.specs.Steps.{step, places, isPlace, legalBy, legalSteps}
+use Rattle.paths.specs.Implied.{constantsOf, selectionsBy}
+use Rattle.paths.specs.declared.steps.Step.{Step}
 use Rattle.estimates.specs.Division.{over}
 use Rattle.estimates.specs.Short.{Y}
 use Rattle.estimates.specs.Profile.{columnOf, domainSize, widthOf, given, shrunk, afterSelection, rowsAfter, countAfter, afterStep, benefit, localProfile}

@@ -21,12 +21,12 @@ use Rattle.envelopes.specs.Parts.{relationCount}
 use Rattle.envelopes.specs.Rules.{Within, tidy}
 use Rattle.entries.specs.declared.places.Place.{Place}
 use Rattle.envelopes.specs.declared.envelope.Envelope.{Envelope}
-use Rattle.papers.specs.Labels.{labelsOf, byLabels}
-use Rattle.papers.specs.Implied.{selected, selectionsBy, impliedSelections, shownSelections}
-use Rattle.papers.specs.declared.labels.Labels.{Labels}
-use Rattle.papers.specs.declared.implied.Selected.{Selected}
-use Rattle.papers.specs.declared.implied.Selections.{Selections}
-use Rattle.papers.proofs.ImpliedLaws.{selections-few, selections-by-labels}
+use Rattle.paths.specs.Labels.{labelsOf, byLabels}
+use Rattle.paths.specs.Implied.{selected, selectionsBy, impliedSelections, shownSelections}
+use Rattle.paths.specs.declared.labels.Labels.{Labels}
+use Rattle.paths.specs.declared.implied.Selected.{Selected}
+use Rattle.paths.specs.declared.implied.Selections.{Selections}
+use Rattle.paths.proofs.ImpliedLaws.{selections-few, selections-by-labels}
 use Rattle.estimates.specs.Division.{over}
 use Rattle.estimates.specs.Short.{Y}
 use Rattle.estimates.specs.Profile.{rowsOf, countOf, given, shrunk, afterSelection, afterSelections, afterRelations, localProfile}

@@ -24,12 +24,12 @@ use Rattle.envelopes.specs.Parts.{sizesOf, relationsOf, relationCount}
 use Rattle.envelopes.specs.Sites.{siteOf, isAt, holds}
 use Rattle.envelopes.specs.Rules.{RelationWithin, Within}
 use Rattle.envelopes.specs.declared.envelope.Envelope.{Envelope}
-use Rattle.papers.specs.Steps.{legal, legalSteps, StepBefore}
+use Rattle.paths.specs.Steps.{legal, legalSteps, StepBefore}
 use Rattle.papers.specs.Programs.{noStep}
-use Rattle.papers.specs.declared.steps.Step.{Step}
-use Rattle.papers.proofs.PathLaws.{same-place, place-same}
-use Rattle.papers.proofs.StepLaws.{legal-member, legal-ordered}
-use Rattle.papers.proofs.StepCountLaws.{legal-few}
+use Rattle.paths.specs.declared.steps.Step.{Step}
+use Rattle.paths.proofs.PathLaws.{same-place, place-same}
+use Rattle.paths.proofs.StepLaws.{legal-member, legal-ordered}
+use Rattle.paths.proofs.StepCountLaws.{legal-few}
 use Rattle.estimates.specs.Profile.{afterStep, benefit, localProfile}
 use Rattle.estimates.specs.Costs.{stepCost, assemblyAt}
 use Rattle.estimates.specs.Choice.{Handed, gain, afterAll, costs, total, cheapest, fallback}

@@ -21,7 +21,7 @@ use Rattle.envelopes.specs.declared.reading.EnvelopeRead.{EnvelopeRead}
 use Rattle.envelopes.proofs.ReadingLaws.{read-refused, read-taken}
 use Rattle.envelopes.proofs.ExactEnvelope.{envelope-exact, check-sound}
 use Rattle.papers.specs.Programs.{noStep, stepsOf, programWith, Acceptable}
-use Rattle.papers.specs.declared.steps.Step.{Step}
+use Rattle.paths.specs.declared.steps.Step.{Step}
 use Rattle.papers.specs.declared.programs.Program.{Program}
 use Rattle.estimates.specs.Profile.{localProfile}
 use Rattle.estimates.specs.Costs.{plainCosts, assemblyAt}

@@ -29,14 +29,14 @@ use Rattle.entries.specs.declared.clauses.ClauseKind.{ClauseKind}
 use Rattle.entries.specs.declared.clauses.ClauseKind.the-variants.{Selection, Join}
 use Rattle.envelopes.specs.declared.envelope.Envelope.{Envelope}
 use Rattle.envelopes.proofs.PartLaws.{relation-inside}
-use Rattle.papers.specs.Paths.{Node, column, constant, Edge, edgeOf, edges}
-use Rattle.papers.specs.Steps.{isPlace, legal, LegalStep}
-use Rattle.papers.specs.Implied.{impliedSelections}
-use Rattle.papers.specs.declared.steps.Step.{Step}
-use Rattle.papers.specs.declared.implied.Selected.{Selected}
-use Rattle.papers.proofs.PathLaws.{on-path, path-equal}
-use Rattle.papers.proofs.LabelLaws.{place-node, place-within}
-use Rattle.papers.proofs.StepLaws.{legal-step}
+use Rattle.paths.specs.Paths.{Node, column, constant, Edge, edgeOf, edges}
+use Rattle.paths.specs.Steps.{isPlace, legal, LegalStep}
+use Rattle.paths.specs.Implied.{impliedSelections}
+use Rattle.paths.specs.declared.steps.Step.{Step}
+use Rattle.paths.specs.declared.implied.Selected.{Selected}
+use Rattle.paths.proofs.PathLaws.{on-path, path-equal}
+use Rattle.paths.proofs.LabelLaws.{place-node, place-within}
+use Rattle.paths.proofs.StepLaws.{legal-step}
 use Rattle.estimates.specs.Division.{over}
 use Rattle.estimates.specs.Short.{Y}
 use Rattle.estimates.specs.Profile.{columnOf, domainSize, rowsOf, countOf, given, shrunk, afterSelection, rowsAfter, countAfter, afterStep, afterSelections, afterRelations, localProfile}

@@ -15,8 +15,8 @@ use Rattle.ground.proofs.CountLaws.{split}
 use Rattle.ground.proofs.NumbersLaws.{filter-below}
 use Rattle.envelopes.specs.Sites.{holds}
 use Rattle.envelopes.specs.declared.envelope.Envelope.{Envelope}
-use Rattle.papers.specs.Steps.{legal}
-use Rattle.papers.specs.declared.steps.Step.{Step}
+use Rattle.paths.specs.Steps.{legal}
+use Rattle.paths.specs.declared.steps.Step.{Step}
 use Rattle.estimates.specs.Profile.{localProfile}
 use Rattle.estimates.specs.Costs.{assemblyAt}
 use Rattle.estimates.specs.Choice.{Kind, afterAll, cheaper, cheapest}

@@ -13,9 +13,9 @@ use Rattle.ground.specs.Lists.{Every, sum}
 use Rattle.ground.proofs.EveryLaws.{every-getD}
 use Rattle.ground.proofs.UsedLaws.{used-inside}
 use Rattle.envelopes.specs.declared.envelope.Envelope.{Envelope}
-use Rattle.papers.specs.Steps.{legal}
+use Rattle.paths.specs.Steps.{legal}
 use Rattle.papers.specs.Programs.{noStep, stepsOf, Acceptable}
-use Rattle.papers.specs.declared.steps.Step.{Step}
+use Rattle.paths.specs.declared.steps.Step.{Step}
 use Rattle.papers.specs.declared.programs.Program.{Program}
 use Rattle.estimates.specs.Profile.{widthOf, rowsOf, rowsAfter, afterStep, localProfile}
 use Rattle.estimates.specs.Costs.{stepCost, assemblyAt}

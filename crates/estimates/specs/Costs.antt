@@ -9,7 +9,7 @@ use Rattle.ground.specs.Lists.{below, sum}
 use Rattle.envelopes.specs.Parts.{relationCount}
 use Rattle.envelopes.specs.Sites.{siteOf}
 use Rattle.envelopes.specs.declared.envelope.Envelope.{Envelope}
-use Rattle.papers.specs.declared.steps.Step.{Step}
+use Rattle.paths.specs.declared.steps.Step.{Step}
 use Rattle.estimates.specs.Profile.{columnOf, widthOf, rowsOf, countOf}
 use Rattle.estimates.specs.declared.profiles.Profile.{Profile}
 use Rattle.estimates.specs.declared.costs.Costs.{Costs}

@@ -12,9 +12,9 @@ use Rattle.entries.specs.Places.{samePlace}
 use Rattle.envelopes.specs.Sites.{isAt, holds}
 use Rattle.envelopes.specs.Envelope.{checkEnvelope}
 use Rattle.envelopes.specs.declared.envelope.Envelope.{Envelope}
-use Rattle.papers.specs.Steps.{legalSteps}
+use Rattle.paths.specs.Steps.{legalSteps}
 use Rattle.papers.specs.Programs.{noStep, stepsOf, checkProgram}
-use Rattle.papers.specs.declared.steps.Step.{Step}
+use Rattle.paths.specs.declared.steps.Step.{Step}
 use Rattle.papers.specs.declared.programs.Program.{Program}
 use Rattle.estimates.specs.Profile.{benefit, afterStep, localProfile}
 use Rattle.estimates.specs.Costs.{plainCosts, stepCost, assemblyAt}

@@ -14,9 +14,9 @@ use Rattle.envelopes.specs.Kept.{keptColumns}
 use Rattle.entries.specs.declared.places.Place.{Place}
 use Rattle.entries.specs.declared.relations.Column.{Column}
 use Rattle.envelopes.specs.declared.envelope.Envelope.{Envelope}
-use Rattle.papers.specs.Implied.{impliedSelections}
-use Rattle.papers.specs.declared.steps.Step.{Step}
-use Rattle.papers.specs.declared.implied.Selected.{Selected}
+use Rattle.paths.specs.Implied.{impliedSelections}
+use Rattle.paths.specs.declared.steps.Step.{Step}
+use Rattle.paths.specs.declared.implied.Selected.{Selected}
 use Rattle.estimates.specs.Division.{over}
 use Rattle.estimates.specs.Short.{Y}
 use Rattle.estimates.specs.declared.profiles.Profile.{Profile}

@@ -2,7 +2,7 @@
 // right column, of which one after the other is taken out.
 use entries::places::Place;
 use envelopes::envelope::Envelope;
-use papers::steps::Step;
+use paths::steps::Step;
 ghost use mathlib.Core.Path.{_≡_};
 ghost use mathlib.Core.Bool.{not};
 ghost use Prim.Native.Nat.{_/_, _%_, _≤_, _<_};
@@ -10,9 +10,9 @@ ghost use lib.ListN.{take};
 ghost use Rattle.ground.specs.Lists.{filter};
 ghost use Rattle.entries.specs.Places.{place};
 ghost use Rattle.envelopes.specs.Rules.{Within};
-ghost use Rattle.papers.specs.Steps.{step as Steps·step, legalSteps};
+ghost use Rattle.paths.specs.Steps.{step as Steps·step, legalSteps};
 ghost use Rattle.papers.specs.Programs.{noStep};
-ghost use Rattle.papers.specs.declared.steps.Step.{Step};
+ghost use Rattle.paths.specs.declared.steps.Step.{Step};
 ghost use Rattle.estimates.specs.Plan.{sameStep};
 ghost use Rattle.estimates.specs.Candidates.{shownSteps};
 
@@ -77,13 +77,13 @@ pub(crate) fn legal_steps(envelope: Envelope) -> Steps
     requires { ⌜ Within envelope ⌝ }
     ensures { λ r. ⌜ r ≡ shownSteps (legalSteps envelope) ⌝ }
 {
-    let labels = papers::labels::labels_of(envelope);
+    let labels = paths::labels::labels_of(envelope);
     let mut all = [no_step(); 156];
     let mut count: u8 = 0;
     let mut k: usize = 0;
     while k < 4096 {
         let step = step_at(k);
-        if papers::steps::legal_by(envelope, labels, step) {
+        if paths::steps::legal_by(envelope, labels, step) {
             let slot = count as usize;
             all[slot] = step;
             count += 1;

@@ -3,7 +3,7 @@ use crate::candidates::Steps;
 use crate::costs::Costs;
 use crate::profiles::Profile;
 use envelopes::envelope::Envelope;
-use papers::steps::Step;
+use paths::steps::Step;
 ghost use mathlib.Core.Path.{_≡_};
 ghost use Prim.Native.Nat.{ℕ, _≤_, _<_};
 ghost use lib.ListN.{getD, take};

@@ -1,7 +1,7 @@
 // What a transfer costs: its size times the price from the sender's site to the receiver's.
 use crate::profiles::Profile;
 use envelopes::envelope::Envelope;
-use papers::steps::Step;
+use paths::steps::Step;
 ghost use mathlib.Core.Path.{_≡_};
 ghost use Prim.Native.Nat.{ℕ, _+_, _*_, _/_, _%_, _≤_};
 ghost use lib.Dec.{eqb};

@@ -6,7 +6,7 @@ use crate::profiles::Profile;
 use envelopes::envelope::Envelope;
 use ground::Verdict;
 use papers::programs::Program;
-use papers::steps::Step;
+use paths::steps::Step;
 ghost use mathlib.Core.Path.{_≡_};
 ghost use Rattle.envelopes.specs.Rules.{Within, tidy};
 ghost use Rattle.envelopes.specs.Envelope.{checkEnvelope};

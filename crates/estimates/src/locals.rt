@@ -2,13 +2,13 @@
 use crate::profiles::Profile;
 use entries::places::Place;
 use envelopes::envelope::Envelope;
-use papers::labels::Labels;
+use paths::labels::Labels;
 ghost use mathlib.Core.Path.{_≡_};
 ghost use Prim.Native.Nat.{ℕ, _≤_};
 ghost use lib.ListN.{getD};
 ghost use Rattle.envelopes.specs.Rules.{Within, tidy};
-ghost use Rattle.papers.specs.Labels.{byLabels};
-ghost use Rattle.papers.specs.Implied.{selectionsBy};
+ghost use Rattle.paths.specs.Labels.{byLabels};
+ghost use Rattle.paths.specs.Implied.{selectionsBy};
 ghost use Rattle.estimates.specs.Profile.{afterSelections, localProfile};
 
 // The implied selections of a relation, by the labels of an envelope.
@@ -16,7 +16,7 @@ fn after_selections(envelope: Envelope, labels: Labels, profile: Profile, relati
     requires { ⌜ Within envelope × ((i : ℕ) → getD (profile .rows) i 0 ≤ 1000000) × ((i : ℕ) → getD (profile .counts) i 0 ≤ 1000000) ⌝ }
     ensures { λ r. ⌜ r ≡ afterSelections profile relation (selectionsBy (byLabels (labels .of) envelope) envelope relation) ⌝ }
 {
-    let selections = papers::implied::selections_by(envelope, labels, relation);
+    let selections = paths::implied::selections_by(envelope, labels, relation);
     let all = selections.all;
     let end = selections.count as usize;
     let mut now = profile;
@@ -38,7 +38,7 @@ pub(crate) fn local_profile(envelope: Envelope) -> Profile
     requires { ⌜ Within envelope × (tidy envelope ≡ envelope) ⌝ }
     ensures { λ r. ⌜ r ≡ localProfile envelope ⌝ }
 {
-    let labels = papers::labels::labels_of(envelope);
+    let labels = paths::labels::labels_of(envelope);
     let end = ground::used::in_use(8, envelope.relation_count);
     let mut now = crate::profiles::given(envelope);
     let mut relation: u8 = 0;

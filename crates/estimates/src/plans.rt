@@ -1,6 +1,6 @@
 // The planner's answers.
 use ground::Verdict;
-use papers::steps::Step;
+use paths::steps::Step;
 
 // A step of a program with its benefit and its cost in that program.
 pub struct Line {

@@ -4,7 +4,7 @@ use entries::places::Place;
 use entries::relations::Column;
 use entries::relations::Relation;
 use envelopes::envelope::Envelope;
-use papers::steps::Step;
+use paths::steps::Step;
 ghost use mathlib.Core.Path.{_≡_};
 ghost use Prim.Native.Nat.{ℕ, _/_, _%_, _≤_, _<_};
 ghost use lib.ListN.{getD, set};

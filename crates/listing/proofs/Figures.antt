@@ -9,9 +9,9 @@ use Rattle.entries.specs.Clauses.{domainOf}
 use Rattle.envelopes.specs.Parts.{sizesOf, relationsOf, clausesOf, targetsOf, columnsIn, withVersion, withSizes, withRelations, withClauses, withTargets}
 use Rattle.envelopes.specs.Sites.{siteOf, isAt, holds}
 use Rattle.envelopes.specs.Kept.{names, kept, keptColumns}
-use Rattle.papers.specs.Paths.{edges, onPath}
-use Rattle.papers.specs.Steps.{places, isPlace, legalBy, legalSteps}
-use Rattle.papers.specs.Implied.{constantsOf, selectionsBy}
+use Rattle.paths.specs.Paths.{edges, onPath}
+use Rattle.paths.specs.Steps.{places, isPlace, legalBy, legalSteps}
+use Rattle.paths.specs.Implied.{constantsOf, selectionsBy}
 use Rattle.estimates.specs.Division.{over}
 use Rattle.estimates.specs.Short.{Y}
 use Rattle.estimates.specs.Profile.{columnOf, domainSize, widthOf, given, shrunk, afterSelection, rowsAfter, countAfter, afterStep, benefit, localProfile}

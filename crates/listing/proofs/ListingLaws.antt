@@ -8,7 +8,7 @@ use lib.ListN.{length, take}
 use Rattle.ground.specs.Lists.{each}
 use Rattle.ground.specs.declared.Verdict.the-variants.{Taken, Refused}
 use Rattle.fields.specs.Puts.{Puts, Fronts}
-use Rattle.papers.specs.declared.steps.Step.{Step}
+use Rattle.paths.specs.declared.steps.Step.{Step}
 use Rattle.estimates.specs.declared.plans.Line.{Line}
 use Rattle.estimates.specs.declared.plans.Plan.{Plan}
 use Rattle.listing.specs.Text.{text, decimal, labelled}

@@ -5,7 +5,7 @@ use Prim.Native.Nat.{ℕ}
 use lib.ListN.{take}
 use Rattle.ground.specs.Lists.{each}
 use Rattle.ground.specs.declared.Verdict.the-variants.{Taken, Refused}
-use Rattle.papers.specs.declared.steps.Step.{Step}
+use Rattle.paths.specs.declared.steps.Step.{Step}
 use Rattle.estimates.specs.declared.plans.Line.{Line}
 use Rattle.estimates.specs.declared.plans.Plan.{Plan}
 use Rattle.listing.specs.Text.{text, decimal, labelled}

@@ -3,7 +3,7 @@ use crate::texts;
 use estimates::plans::Line;
 use estimates::plans::Plan;
 use ground::Verdict;
-use papers::steps::Step;
+use paths::steps::Step;
 ghost use Prim.Native.Nat.{_≤_};
 ghost use lib.ListN.{take};
 ghost use Rattle.ground.specs.Lists.{each};

@@ -19,10 +19,10 @@ use Rattle.envelopes.specs.Rules.{Within}
 use Rattle.envelopes.specs.Fits.{Fits}
 use Rattle.envelopes.specs.declared.envelope.Envelope.{Envelope}
 use Rattle.envelopes.proofs.ExactStructs.{place-tells}
-use Rattle.papers.specs.Steps.{step, legal, stepBytes}
+use Rattle.paths.specs.Steps.{step, legal, stepBytes}
 use Rattle.papers.specs.Programs.{stepsOf, programWith, SJP, readProgram, programBytes, checkProgram, programWritten, programWrittenIn, Acceptable, tidyProgram}
 use Rattle.papers.specs.Fits.{StepFits, ProgramFits}
-use Rattle.papers.specs.declared.steps.Step.{Step}
+use Rattle.paths.specs.declared.steps.Step.{Step}
 use Rattle.papers.specs.declared.programs.Program.{Program}
 use Rattle.papers.proofs.ExactPrograms.{site-small, legal-named, program-bytes, read-exact, read-complete}
 

@@ -36,10 +36,10 @@ use Rattle.envelopes.proofs.ExactPlaces.{Named, place-exact}
 use Rattle.envelopes.proofs.TidyLaws.{tidy-within}
 use Rattle.envelopes.proofs.ExactEnvelope.{check-complete}
 use Rattle.envelopes.proofs.ExactChecks.{check-exact}
-use Rattle.papers.specs.Paths.{column, onPath}
-use Rattle.papers.specs.Steps.{step, isPlace, legalBy, legal, stepBytes}
+use Rattle.paths.specs.Paths.{column, onPath}
+use Rattle.paths.specs.Steps.{step, isPlace, legalBy, legal, stepBytes}
 use Rattle.papers.specs.Programs.{noStep, stepsOf, programWith, SJP, stepAt, endedProgram, stepsThen, programBy, programAgainst, readProgram, programBytes, Acceptable, tidyProgram}
-use Rattle.papers.specs.declared.steps.Step.{Step}
+use Rattle.paths.specs.declared.steps.Step.{Step}
 use Rattle.papers.specs.declared.programs.Program.{Program}
 use Rattle.papers.proofs.TidyLaws.{tidy-acceptable}
 

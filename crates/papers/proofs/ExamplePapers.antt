@@ -17,7 +17,7 @@ use Rattle.entries.specs.declared.relations.Relation.{Relation}
 use Rattle.entries.specs.declared.clauses.Clause.{Clause}
 use Rattle.entries.specs.declared.clauses.ClauseKind.the-variants.{Selection, Join}
 use Rattle.envelopes.specs.declared.envelope.Envelope.{Envelope}
-use Rattle.papers.specs.Steps.{step}
+use Rattle.paths.specs.Steps.{step}
 use Rattle.papers.specs.Programs.{programWith, readProgram, checkProgram}
 
 -- ---- how an example is written

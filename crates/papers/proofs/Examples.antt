@@ -22,14 +22,14 @@ use Rattle.envelopes.specs.Rules.{tidyRelation, tidy}
 use Rattle.entries.specs.declared.places.Place.{Place}
 use Rattle.entries.specs.declared.clauses.Clause.{Clause}
 use Rattle.envelopes.specs.declared.envelope.Envelope.{Envelope}
-use Rattle.papers.specs.Paths.{edges, onPath}
-use Rattle.papers.specs.Steps.{step, places, isPlace, legalBy, legalSteps, stepBytes}
-use Rattle.papers.specs.Implied.{constantsOf, selectionsBy, equalitiesBy, impliedSelections, impliedEqualities}
+use Rattle.paths.specs.Paths.{edges, onPath}
+use Rattle.paths.specs.Steps.{step, places, isPlace, legalBy, legalSteps, stepBytes}
+use Rattle.paths.specs.Implied.{constantsOf, selectionsBy, equalitiesBy, impliedSelections, impliedEqualities}
 use Rattle.papers.specs.Programs.{stepsOf, programWith, stepAt, endedProgram, stepsThen, programBy, readProgram, programBytes, checkProgram}
-use Rattle.papers.specs.Meaning.{rowsIn, tablesIn, tablesOf, meetsAll, answerOn, answerRows, answerWords}
-use Rattle.papers.specs.declared.steps.Step.{Step}
-use Rattle.papers.specs.declared.implied.Selected.{Selected}
-use Rattle.papers.specs.declared.implied.Equal.{Equal}
+use Rattle.paths.specs.Meaning.{rowsIn, tablesIn, tablesOf, meetsAll, answerOn, answerRows, answerWords}
+use Rattle.paths.specs.declared.steps.Step.{Step}
+use Rattle.paths.specs.declared.implied.Selected.{Selected}
+use Rattle.paths.specs.declared.implied.Equal.{Equal}
 use Rattle.papers.proofs.ExamplePapers.{Example, _gives_, seen, taken, sel, join, col, small, asks, two, smallAsked, largest, there, back, program, ends, heads, limits, rules, stuffed, structs}
 
 -- ---- paths: legal steps, implied clauses, kept columns

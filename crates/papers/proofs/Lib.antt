@@ -1,17 +1,4 @@
--- The laws of what an envelope says: paths, what they mean on tables, labels, legal steps and how many there are, implied
--- clauses, programs.
-pub mod PathLaws
-pub mod MeaningLaws
-pub mod LabelLaws
-pub mod LabelCodeLaws
-pub mod StepLaws
-pub mod StepCodeLaws
-pub mod StepCountLaws
-pub mod ImpliedLaws
-pub mod GatheringLaws
-pub mod ImpliedCodeLaws
-pub mod EqualCodeLaws
-pub mod CheckedImpliedLaws
+-- The laws of programs, of both papers together, and that zeros in places not in use change nothing; examples of papers.
 pub mod ProgramLaws
 pub mod PutLaws
 pub mod ProgramCodeLaws

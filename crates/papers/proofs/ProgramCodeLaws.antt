@@ -31,11 +31,11 @@ use Rattle.envelopes.specs.declared.reading.EnvelopeRead.{EnvelopeRead}
 use Rattle.entries.proofs.PlaceLaws.{place-good, place-bad}
 use Rattle.envelopes.proofs.ReadingLaws.{read-taken, read-refused}
 use Rattle.envelopes.proofs.ExactEnvelope.{check-sound}
-use Rattle.papers.specs.Labels.{labelsOf, byLabels}
-use Rattle.papers.specs.Steps.{step, legalBy}
+use Rattle.paths.specs.Labels.{labelsOf, byLabels}
+use Rattle.paths.specs.Steps.{step, legalBy}
 use Rattle.papers.specs.Programs.{noStep, noProgram, programWith, SJP, stepAt, endedProgram, stepsFrom, stepsThen, programBy, programAgainst, readProgram, programBytes, checkProgram, programWritten, programWrittenIn, shownStep, shownProgram}
-use Rattle.papers.specs.declared.labels.Labels.{Labels}
-use Rattle.papers.specs.declared.steps.Step.{Step}
+use Rattle.paths.specs.declared.labels.Labels.{Labels}
+use Rattle.paths.specs.declared.steps.Step.{Step}
 use Rattle.papers.specs.declared.programs.Program.{Program}
 use Rattle.papers.specs.declared.programs.StepRead.{StepRead}
 use Rattle.papers.specs.declared.programs.StepRead.the-variants.{Is, Not}

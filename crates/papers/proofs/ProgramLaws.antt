@@ -6,11 +6,11 @@ use mathlib.Core.List.{List}
 use Prim.Native.Nat.{ℕ}
 use Rattle.envelopes.specs.Rules.{Within}
 use Rattle.envelopes.specs.declared.envelope.Envelope.{Envelope}
-use Rattle.papers.specs.Labels.{labelsOf, byLabels}
-use Rattle.papers.specs.Steps.{legalBy}
+use Rattle.paths.specs.Labels.{labelsOf, byLabels}
+use Rattle.paths.specs.Steps.{legalBy}
 use Rattle.papers.specs.Programs.{programBy, programAgainst}
-use Rattle.papers.specs.declared.steps.Step.{Step}
-use Rattle.papers.proofs.StepLaws.{legal-by-labels}
+use Rattle.paths.specs.declared.steps.Step.{Step}
+use Rattle.paths.proofs.StepLaws.{legal-by-labels}
 
 pub program-alike : (f g : Step → Bool) → ((x : Step) → f x ≡ g x) → (e : Envelope) (s : List ℕ) → programBy f e s ≡ programBy g e s
 program-alike f g h e s = ap (λ (lawful : Step → Bool). programBy lawful e s) (fun-ext h)

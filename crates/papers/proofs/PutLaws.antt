@@ -11,9 +11,9 @@ use Rattle.ground.specs.Bytes.{bytesOf}
 use Rattle.fields.specs.Puts.{Puts, Fronts}
 use Rattle.fields.proofs.PutLaws.{then-put}
 use Rattle.entries.specs.Places.{placeBytes}
-use Rattle.papers.specs.Steps.{stepBytes}
+use Rattle.paths.specs.Steps.{stepBytes}
 use Rattle.papers.specs.Programs.{SJP, stepsOf, programBytes}
-use Rattle.papers.specs.declared.steps.Step.{Step}
+use Rattle.paths.specs.declared.steps.Step.{Step}
 use Rattle.papers.specs.declared.programs.Program.{Program}
 
 pub step-long : (at : ℕ) (x : Step) → at + 4 ≡ at + length (stepBytes x)

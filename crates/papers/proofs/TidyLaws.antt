@@ -22,12 +22,12 @@ use Rattle.entries.specs.declared.clauses.ClauseKind.the-variants.{Selection, J
 use Rattle.envelopes.specs.declared.envelope.Envelope.{Envelope}
 use Rattle.envelopes.proofs.TidyLaws.{tidy-clauses, tidy-targets, tidy-columns-in, tidy-relation-count, tidy-holds, tidy-domain-of}
 use Rattle.envelopes.proofs.ExactChecks.{check-exact}
-use Rattle.papers.specs.Paths.{Node, column, constant, Edge, edgeOf, edges, linked, onPath}
-use Rattle.papers.specs.Steps.{step, places, isPlace, legalBy, legal, legalSteps}
-use Rattle.papers.specs.Implied.{selected, constantIn, constantsOf, selectionsBy, equalitiesBy, impliedSelections, impliedEqualities}
+use Rattle.paths.specs.Paths.{Node, column, constant, Edge, edgeOf, edges, linked, onPath}
+use Rattle.paths.specs.Steps.{step, places, isPlace, legalBy, legal, legalSteps}
+use Rattle.paths.specs.Implied.{selected, constantIn, constantsOf, selectionsBy, equalitiesBy, impliedSelections, impliedEqualities}
 use Rattle.papers.specs.Programs.{stepsOf, Acceptable}
-use Rattle.papers.specs.Meaning.{tablesOf, answerRows}
-use Rattle.papers.specs.declared.steps.Step.{Step}
+use Rattle.paths.specs.Meaning.{tablesOf, answerRows}
+use Rattle.paths.specs.declared.steps.Step.{Step}
 use Rattle.papers.specs.declared.programs.Program.{Program}
 
 module _ (e : Envelope) (within : Within e) where

@@ -1,11 +1,4 @@
--- What an envelope says: paths, legal steps, implied clauses, programs, and what it means on tables. Each file is headed
--- by the sentences of 01 that it renders. Labels and Fits have no such sentence: they are how the code finds paths and
--- what the types of the fields say.
-pub mod Paths
-pub mod Steps
-pub mod Labels
-pub mod Implied
+-- Step programs as 01's "Papers on the wire" has them, and both papers together. Fits has what the types of the fields say.
 pub mod Programs
 pub mod Checks
-pub mod Meaning
 pub mod Fits

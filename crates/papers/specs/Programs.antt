@@ -21,8 +21,8 @@ use Rattle.entries.specs.Places.{noPlace, placeAt}
 use Rattle.envelopes.specs.Sites.{holds}
 use Rattle.envelopes.specs.Envelope.{checkEnvelope}
 use Rattle.envelopes.specs.declared.envelope.Envelope.{Envelope}
-use Rattle.papers.specs.Steps.{step, legal, stepBytes}
-use Rattle.papers.specs.declared.steps.Step.{Step}
+use Rattle.paths.specs.Steps.{step, legal, stepBytes}
+use Rattle.paths.specs.declared.steps.Step.{Step}
 use Rattle.papers.specs.declared.programs.Program.{Program}
 use Rattle.papers.specs.declared.programs.StepRead.{StepRead}
 use Rattle.papers.specs.declared.programs.StepRead.the-variants.{Is, Not}

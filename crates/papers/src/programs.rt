@@ -1,6 +1,4 @@
 // Step programs: read against an envelope, checked, written. Steps are tested by the labels of the envelope.
-use crate::labels::Labels;
-use crate::steps::Step;
 use entries::places::PlaceRead;
 use envelopes::envelope::Envelope;
 use fields::numbers::NumberRead;
@@ -8,11 +6,13 @@ use fields::numbers::Width;
 use fields::puts::Written;
 use fields::refusals;
 use ground::Verdict;
+use paths::labels::Labels;
+use paths::steps::Step;
 ghost use mathlib.Core.Path.{_≡_};
 ghost use Prim.Native.Nat.{_≤_};
 ghost use Rattle.ground.specs.Outcome.Outcome.{bad};
-ghost use Rattle.papers.specs.Labels.{byLabels};
-ghost use Rattle.papers.specs.Steps.{legalBy};
+ghost use Rattle.paths.specs.Labels.{byLabels};
+ghost use Rattle.paths.specs.Steps.{legalBy};
 ghost use Rattle.papers.specs.Programs.{
   noStep,
   noProgram,
@@ -89,7 +89,7 @@ fn read_step(s: &[u8], at: usize, i: usize, envelope: Envelope, labels: Labels) 
             PlaceRead::Not { number, position } => StepRead::Not { number, position },
             PlaceRead::Is(right, q) => {
                 let step = Step { left, right };
-                if crate::steps::legal_by(envelope, labels, step) {
+                if paths::steps::legal_by(envelope, labels, step) {
                     StepRead::Is(step, q)
                 } else {
                     StepRead::Not {
@@ -184,7 +184,7 @@ pub fn read_program(envelope: Envelope, s: &[u8]) -> ProgramRead
         Verdict::Refused { number, position } => refused_program(number, position),
         Verdict::Taken => {
             let checked = read.envelope;
-            let labels = crate::labels::labels_of(checked);
+            let labels = paths::labels::labels_of(checked);
             read_program_by(s, checked, labels)
         }
     }

@@ -1,14 +1,14 @@
 // A program put into a lent buffer, as far as the buffer goes. Each function answers the position past the bytes of its
 // part, which is no further than the part's greatest length, so that positions fit.
 use crate::programs::Program;
-use crate::steps::Step;
 use fields::numbers::Width;
 use fields::puts;
+use paths::steps::Step;
 ghost use Prim.Native.Nat.{_≤_};
 ghost use lib.ListN.{take};
 ghost use Rattle.ground.specs.Lists.{each};
 ghost use Rattle.fields.specs.Puts.{Puts, Fronts};
-ghost use Rattle.papers.specs.Steps.{stepBytes};
+ghost use Rattle.paths.specs.Steps.{stepBytes};
 ghost use Rattle.papers.specs.Programs.{programBytes};
 
 fn put_step(out: &mut [u8], at: usize, step: Step) -> usize

@@ -15,7 +15,7 @@ use Rattle.ground.proofs.CountLaws.{split}
 use Rattle.ground.proofs.CombinationLaws.{combinations-from, combinations-length, combinations-filters, combinations-map}
 use Rattle.envelopes.specs.Parts.{relationCount, clausesOf, targetsOf}
 use Rattle.envelopes.specs.declared.envelope.Envelope.{Envelope}
-use Rattle.papers.specs.Meaning.{Row, Table, meetsAll, targetRow, answerOn, answerRows}
+use Rattle.paths.specs.Meaning.{Row, Table, meetsAll, targetRow, answerOn, answerRows}
 use Rattle.semijoin.specs.Offsets.{countIn, rowsAt, marksAt}
 use Rattle.semijoin.specs.Marks.{isKept, keptOf, keptRows}
 use Rattle.semijoin.specs.Promise.{rowOf, keptAt, SameRows, NeededIn, Needed, Covers}

@@ -21,7 +21,7 @@ use Rattle.envelopes.specs.Rules.{Within}
 use Rattle.entries.specs.declared.places.Place.{Place}
 use Rattle.envelopes.specs.declared.envelope.Envelope.{Envelope}
 use Rattle.envelopes.proofs.ExactEnvelope.{check-complete}
-use Rattle.papers.specs.Steps.{isPlace}
+use Rattle.paths.specs.Steps.{isPlace}
 use Rattle.papers.specs.Programs.{Acceptable}
 use Rattle.papers.specs.Checks.{papersOf}
 use Rattle.papers.specs.declared.programs.Program.{Program}

@@ -20,12 +20,12 @@ use Rattle.envelopes.specs.Sites.{siteOf, isAt, holds}
 use Rattle.envelopes.specs.Kept.{names, kept, keptColumns, firstBare}
 use Rattle.envelopes.specs.Envelope.{filled, listInto, ended, targetsThen, clausesThen, relationsThen, sizesThen, envelopeFrom, envelopeBytes, checkEnvelope}
 use Rattle.envelopes.specs.declared.envelope.Envelope.{Envelope}
-use Rattle.papers.specs.Paths.{edges, onPath}
-use Rattle.papers.specs.Steps.{step, isPlace, legalBy, stepBytes}
-use Rattle.papers.specs.Implied.{constantsOf, selectionsBy, equalitiesBy}
+use Rattle.paths.specs.Paths.{edges, onPath}
+use Rattle.paths.specs.Steps.{step, isPlace, legalBy, stepBytes}
+use Rattle.paths.specs.Implied.{constantsOf, selectionsBy, equalitiesBy}
 use Rattle.papers.specs.Programs.{stepsOf, programWith, stepAt, endedProgram, stepsThen, programBy, readProgram, programBytes, checkProgram}
 use Rattle.papers.specs.Checks.{papersOf}
-use Rattle.papers.specs.Meaning.{Row, rowsIn, tablesIn, tablesOf, meetsAll, answerOn, answerRows, answerWords}
+use Rattle.paths.specs.Meaning.{Row, rowsIn, tablesIn, tablesOf, meetsAll, answerOn, answerRows, answerWords}
 use Rattle.semijoin.specs.Offsets.{countIn, wordsBefore, rowsBefore, firstWord, rowsAt, marksAt}
 use Rattle.semijoin.specs.Shape.{shaped}
 use Rattle.semijoin.specs.Marks.{keptOf, keptRows, sieved, reducedBy, removedOf, removedBy, marksAfter}

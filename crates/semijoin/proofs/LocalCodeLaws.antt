@@ -18,15 +18,15 @@ use Rattle.ground.proofs.PuttingLaws.{sets-append}
 use Rattle.envelopes.specs.Parts.{relationCount}
 use Rattle.envelopes.specs.Rules.{Within}
 use Rattle.envelopes.specs.declared.envelope.Envelope.{Envelope}
-use Rattle.papers.specs.Labels.{labelsOf, byLabels}
-use Rattle.papers.specs.Implied.{selected, equal, selectionsBy, equalitiesBy, impliedSelections, impliedEqualities, shownSelections, shownEqualities}
-use Rattle.papers.specs.Meaning.{Row, Table, wordIn}
-use Rattle.papers.specs.declared.labels.Labels.{Labels}
-use Rattle.papers.specs.declared.implied.Selected.{Selected}
-use Rattle.papers.specs.declared.implied.Selections.{Selections}
-use Rattle.papers.specs.declared.implied.Equal.{Equal}
-use Rattle.papers.specs.declared.implied.Equalities.{Equalities}
-use Rattle.papers.proofs.ImpliedLaws.{selections-by-labels, equalities-by-labels}
+use Rattle.paths.specs.Labels.{labelsOf, byLabels}
+use Rattle.paths.specs.Implied.{selected, equal, selectionsBy, equalitiesBy, impliedSelections, impliedEqualities, shownSelections, shownEqualities}
+use Rattle.paths.specs.Meaning.{Row, Table, wordIn}
+use Rattle.paths.specs.declared.labels.Labels.{Labels}
+use Rattle.paths.specs.declared.implied.Selected.{Selected}
+use Rattle.paths.specs.declared.implied.Selections.{Selections}
+use Rattle.paths.specs.declared.implied.Equal.{Equal}
+use Rattle.paths.specs.declared.implied.Equalities.{Equalities}
+use Rattle.paths.proofs.ImpliedLaws.{selections-by-labels, equalities-by-labels}
 use Rattle.semijoin.specs.Offsets.{rowsAt}
 use Rattle.semijoin.specs.Local.{passesBy, passes, openedAt, opened}
 use Rattle.semijoin.specs.Extents.{extentOf, rowsOver, openingMark}

@@ -19,11 +19,11 @@ use Rattle.ground.proofs.NumbersLaws.{numbers-append, each-below}
 use Rattle.ground.proofs.PuttingLaws.{sets-behind}
 use Rattle.envelopes.specs.Parts.{relationCount}
 use Rattle.envelopes.specs.declared.envelope.Envelope.{Envelope}
-use Rattle.papers.specs.Meaning.{Row, wordIn}
-use Rattle.papers.specs.Implied.{impliedSelections, impliedEqualities}
-use Rattle.papers.specs.declared.implied.Selected.{Selected}
-use Rattle.papers.specs.declared.implied.Equal.{Equal}
-use Rattle.papers.proofs.ImpliedLaws.{selection-met, equality-met}
+use Rattle.paths.specs.Meaning.{Row, wordIn}
+use Rattle.paths.specs.Implied.{impliedSelections, impliedEqualities}
+use Rattle.paths.specs.declared.implied.Selected.{Selected}
+use Rattle.paths.specs.declared.implied.Equal.{Equal}
+use Rattle.paths.proofs.ImpliedLaws.{selection-met, equality-met}
 use Rattle.semijoin.specs.Offsets.{countIn, rowsBefore, firstMark, rowCount, rowsAt, marksAt}
 use Rattle.semijoin.specs.Local.{passesBy, passes, openedAt, opened}
 use Rattle.semijoin.specs.Marks.{isKept}

@@ -11,7 +11,7 @@ use lib.ListN.{length, getD, take}
 use lib.Seq.{take-suc, length-take-le}
 use Rattle.ground.specs.Tests.{pick}
 use Rattle.ground.specs.Lists.{consIf, filter, numbersFrom}
-use Rattle.papers.specs.Meaning.{Row, Table, wordIn}
+use Rattle.paths.specs.Meaning.{Row, Table, wordIn}
 use Rattle.semijoin.specs.Rising.{among}
 use Rattle.semijoin.specs.Marks.{isKept, keptOf, sieved, removedOf}
 

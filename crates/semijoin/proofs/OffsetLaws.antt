@@ -14,7 +14,7 @@ use Rattle.ground.proofs.ListLaws.{getD-map}
 use Rattle.ground.proofs.CountLaws.{split}
 use Rattle.envelopes.specs.Parts.{relationCount, columnsIn}
 use Rattle.envelopes.specs.declared.envelope.Envelope.{Envelope}
-use Rattle.papers.specs.Meaning.{Row, Table, wordIn, rowsIn, tablesIn, countsOf, tablesOf}
+use Rattle.paths.specs.Meaning.{Row, Table, wordIn, rowsIn, tablesIn, countsOf, tablesOf}
 use Rattle.semijoin.specs.Offsets.{countIn, wordsBefore, rowsBefore, firstWord, firstMark, rowsAt}
 use Rattle.semijoin.proofs.SumLaws.{sum-none, sum-below, sum-end}
 

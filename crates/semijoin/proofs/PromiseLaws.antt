@@ -22,11 +22,11 @@ use Rattle.ground.proofs.UsedLaws.{used-outside}
 use Rattle.envelopes.specs.Parts.{relationCount}
 use Rattle.entries.specs.declared.places.Place.{Place}
 use Rattle.envelopes.specs.declared.envelope.Envelope.{Envelope}
-use Rattle.papers.specs.Meaning.{Row, Table, wordIn, valueIn, tablesOf}
-use Rattle.papers.specs.Steps.{isPlace, legal}
-use Rattle.papers.specs.declared.steps.Step.{Step}
-use Rattle.papers.proofs.StepLaws.{legal-step}
-use Rattle.papers.proofs.MeaningLaws.{columns-equal}
+use Rattle.paths.specs.Meaning.{Row, Table, wordIn, valueIn, tablesOf}
+use Rattle.paths.specs.Steps.{isPlace, legal}
+use Rattle.paths.specs.declared.steps.Step.{Step}
+use Rattle.paths.proofs.StepLaws.{legal-step}
+use Rattle.paths.proofs.MeaningLaws.{columns-equal}
 use Rattle.semijoin.specs.Offsets.{countIn, firstMark, rowsAt, marksAt}
 use Rattle.semijoin.specs.Rising.{among}
 use Rattle.semijoin.specs.Marks.{isKept, keptRows, sieved, reducedBy, removedBy}

@@ -8,7 +8,7 @@ use native.Mathlib.Omega.{arith}
 use lib.ListN.{length, getD, drop, List·getD-eq-default}
 use Rattle.ground.proofs.CountLaws.{split}
 use Rattle.ground.proofs.UsedLaws.{used-outside}
-use Rattle.papers.specs.Meaning.{Row, wordIn}
+use Rattle.paths.specs.Meaning.{Row, wordIn}
 use Rattle.semijoin.specs.Marks.{isKept}
 use Rattle.semijoin.specs.Extents.{rowsOver, marksOver, wordOver, keptOver}
 use Rattle.semijoin.specs.declared.offsets.Extent.{Extent}

@@ -21,13 +21,13 @@ use Rattle.fields.proofs.PutLaws.{fresh-bytes}
 use Rattle.envelopes.specs.Parts.{relationCount}
 use Rattle.envelopes.specs.Rules.{Within}
 use Rattle.envelopes.specs.declared.envelope.Envelope.{Envelope}
-use Rattle.papers.specs.Steps.{legal, LegalStep}
+use Rattle.paths.specs.Steps.{legal, LegalStep}
 use Rattle.papers.specs.Programs.{noStep, stepsOf}
 use Rattle.papers.specs.Checks.{papersOf, shownPapers}
-use Rattle.papers.specs.declared.steps.Step.{Step}
+use Rattle.paths.specs.declared.steps.Step.{Step}
 use Rattle.papers.specs.declared.programs.Program.{Program}
 use Rattle.papers.specs.declared.checks.PapersRead.{PapersRead}
-use Rattle.papers.proofs.StepLaws.{legal-step}
+use Rattle.paths.proofs.StepLaws.{legal-step}
 use Rattle.papers.proofs.CheckLaws.{papers-taken, papers-refused, papers-sound, GoodPapers}
 use Rattle.semijoin.specs.Shape.{shaped, marksTests, judgement}
 use Rattle.semijoin.specs.Local.{openedAt, opened, openedIn}

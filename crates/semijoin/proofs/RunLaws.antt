@@ -28,15 +28,15 @@ use Rattle.envelopes.proofs.TidyLaws.{tidy-within}
 use Rattle.envelopes.proofs.ExactEnvelope.{check-complete}
 use Rattle.envelopes.specs.Parts.{relationCount, clausesOf, targetsOf}
 use Rattle.envelopes.specs.declared.envelope.Envelope.{Envelope}
-use Rattle.papers.specs.Meaning.{Row, Table, wordIn, valueIn, answerOn, answerRows}
-use Rattle.papers.specs.Steps.{legal}
+use Rattle.paths.specs.Meaning.{Row, Table, wordIn, valueIn, answerOn, answerRows}
+use Rattle.paths.specs.Steps.{legal}
 use Rattle.papers.specs.Programs.{stepsOf, programAgainst, readProgram, programBytes, checkProgram, Acceptable, tidyProgram}
 use Rattle.papers.specs.Checks.{papersOf}
 use Rattle.papers.specs.Fits.{ProgramFits}
-use Rattle.papers.specs.declared.steps.Step.{Step}
+use Rattle.paths.specs.declared.steps.Step.{Step}
 use Rattle.papers.specs.declared.programs.Program.{Program}
-use Rattle.papers.proofs.StepLaws.{legal-step}
-use Rattle.papers.proofs.MeaningLaws.{columns-equal}
+use Rattle.paths.proofs.StepLaws.{legal-step}
+use Rattle.paths.proofs.MeaningLaws.{columns-equal}
 use Rattle.papers.proofs.TidyLaws.{tidy-acceptable}
 use Rattle.papers.proofs.ExactPrograms.{program-complete}
 use Rattle.papers.proofs.ExactChecks.{check-exact}

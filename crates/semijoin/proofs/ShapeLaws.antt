@@ -16,7 +16,7 @@ use Rattle.ground.proofs.NumbersLaws.{below-mem}
 use Rattle.envelopes.specs.Parts.{relationCount, columnsIn}
 use Rattle.envelopes.specs.declared.envelope.Envelope.{Envelope}
 use Rattle.entries.specs.declared.places.Place.{Place}
-use Rattle.papers.specs.Steps.{isPlace}
+use Rattle.paths.specs.Steps.{isPlace}
 use Rattle.semijoin.specs.Offsets.{countIn, firstWord}
 use Rattle.semijoin.specs.Shape.{shaped}
 use Rattle.semijoin.proofs.OffsetLaws.{count-outside, words-end}

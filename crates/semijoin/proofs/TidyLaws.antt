@@ -15,9 +15,9 @@ use Rattle.envelopes.specs.Rules.{Within, tidy}
 use Rattle.entries.specs.declared.places.Place.{Place}
 use Rattle.envelopes.specs.declared.envelope.Envelope.{Envelope}
 use Rattle.envelopes.proofs.TidyLaws.{tidy-relation-count, tidy-columns-in}
-use Rattle.papers.specs.Meaning.{Row}
+use Rattle.paths.specs.Meaning.{Row}
 use Rattle.papers.specs.Programs.{noStep, stepsOf, tidyProgram}
-use Rattle.papers.specs.declared.steps.Step.{Step}
+use Rattle.paths.specs.declared.steps.Step.{Step}
 use Rattle.papers.specs.declared.programs.Program.{Program}
 use Rattle.papers.proofs.TidyLaws.{tidy-selections, tidy-equalities}
 use Rattle.semijoin.specs.Offsets.{countIn, wordsBefore, rowsBefore, firstWord, rowCount, rowsAt, marksAt}

@@ -8,9 +8,9 @@ use lib.Seq.{sets}
 use Rattle.ground.specs.Tests.{pick}
 use Rattle.envelopes.specs.Parts.{columnsIn}
 use Rattle.envelopes.specs.declared.envelope.Envelope.{Envelope}
-use Rattle.papers.specs.Meaning.{Row, Table, wordIn, rowsIn}
-use Rattle.papers.specs.declared.implied.Selected.{Selected}
-use Rattle.papers.specs.declared.implied.Equal.{Equal}
+use Rattle.paths.specs.Meaning.{Row, Table, wordIn, rowsIn}
+use Rattle.paths.specs.declared.implied.Selected.{Selected}
+use Rattle.paths.specs.declared.implied.Equal.{Equal}
 use Rattle.semijoin.specs.Offsets.{countIn, firstWord, firstMark}
 use Rattle.semijoin.specs.Marks.{isKept, keptOf, sieved, removedOf}
 use Rattle.semijoin.specs.Local.{passesBy}

@@ -14,10 +14,10 @@ use Rattle.ground.specs.Refusing.{judged}
 use Rattle.envelopes.specs.Parts.{relationCount}
 use Rattle.envelopes.specs.Envelope.{checkEnvelope}
 use Rattle.envelopes.specs.declared.envelope.Envelope.{Envelope}
-use Rattle.papers.specs.Implied.{impliedSelections, impliedEqualities}
-use Rattle.papers.specs.Meaning.{Row, wordIn}
-use Rattle.papers.specs.declared.implied.Selected.{Selected}
-use Rattle.papers.specs.declared.implied.Equal.{Equal}
+use Rattle.paths.specs.Implied.{impliedSelections, impliedEqualities}
+use Rattle.paths.specs.Meaning.{Row, wordIn}
+use Rattle.paths.specs.declared.implied.Selected.{Selected}
+use Rattle.paths.specs.declared.implied.Equal.{Equal}
 use Rattle.semijoin.specs.Offsets.{rowsAt}
 use Rattle.semijoin.specs.Shape.{marksTests}
 

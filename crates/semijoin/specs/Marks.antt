@@ -15,7 +15,7 @@ use Rattle.fields.specs.Refusals.{notSound}
 use Rattle.envelopes.specs.Parts.{relationCount}
 use Rattle.entries.specs.declared.places.Place.{Place}
 use Rattle.envelopes.specs.declared.envelope.Envelope.{Envelope}
-use Rattle.papers.specs.Meaning.{Table, wordIn}
+use Rattle.paths.specs.Meaning.{Table, wordIn}
 use Rattle.semijoin.specs.Offsets.{rowsAt, marksAt, firstMark}
 use Rattle.semijoin.specs.Shape.{columnTests}
 use Rattle.semijoin.specs.Rising.{among, isRising}

@@ -6,7 +6,7 @@ use lib.ListN.{getD, take, drop}
 use Rattle.ground.specs.Lists.{below, sum}
 use Rattle.envelopes.specs.Parts.{relationCount, columnsIn}
 use Rattle.envelopes.specs.declared.envelope.Envelope.{Envelope}
-use Rattle.papers.specs.Meaning.{Table, rowsIn, countsOf}
+use Rattle.paths.specs.Meaning.{Table, rowsIn, countsOf}
 
 -- the row count of a relation
 unfoldable pub countIn : Envelope → List ℕ → ℕ → ℕ

@@ -13,9 +13,9 @@ use Rattle.ground.specs.Rising.{Rises}
 use Rattle.envelopes.specs.Parts.{clausesOf}
 use Rattle.entries.specs.declared.places.Place.{Place}
 use Rattle.envelopes.specs.declared.envelope.Envelope.{Envelope}
-use Rattle.papers.specs.Meaning.{Row, Table, Combination, wordIn, meetsAll, tablesOf}
-use Rattle.papers.specs.Steps.{isPlace, legal}
-use Rattle.papers.specs.declared.steps.Step.{Step}
+use Rattle.paths.specs.Meaning.{Row, Table, Combination, wordIn, meetsAll, tablesOf}
+use Rattle.paths.specs.Steps.{isPlace, legal}
+use Rattle.paths.specs.declared.steps.Step.{Step}
 use Rattle.semijoin.specs.Offsets.{countIn, rowCount, rowsAt, marksAt}
 use Rattle.semijoin.specs.Rising.{among}
 use Rattle.semijoin.specs.Marks.{isKept, keptRows}

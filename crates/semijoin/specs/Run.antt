@@ -9,7 +9,7 @@ use Rattle.ground.specs.Refusing.{judged}
 use Rattle.envelopes.specs.declared.envelope.Envelope.{Envelope}
 use Rattle.papers.specs.Programs.{stepsOf}
 use Rattle.papers.specs.Checks.{papersOf}
-use Rattle.papers.specs.declared.steps.Step.{Step}
+use Rattle.paths.specs.declared.steps.Step.{Step}
 use Rattle.papers.specs.declared.programs.Program.{Program}
 use Rattle.semijoin.specs.Shape.{marksTests}
 use Rattle.semijoin.specs.Local.{openedIn}

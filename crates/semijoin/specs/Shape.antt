@@ -14,7 +14,7 @@ use Rattle.fields.specs.Refusals.{wrongShape, tooShort, notOurs}
 use Rattle.envelopes.specs.Parts.{relationCount}
 use Rattle.entries.specs.declared.places.Place.{Place}
 use Rattle.envelopes.specs.declared.envelope.Envelope.{Envelope}
-use Rattle.papers.specs.Steps.{isPlace}
+use Rattle.paths.specs.Steps.{isPlace}
 use Rattle.semijoin.specs.Offsets.{countIn, firstWord, rowCount}
 
 -- each count is within its size, the words are the counts and as many as they say, and all of it is within the size

@@ -2,10 +2,10 @@
 use crate::offsets::Extent;
 use envelopes::envelope::Envelope;
 use ground::Verdict;
-use papers::implied::Equal;
-use papers::implied::Equalities;
-use papers::implied::Selected;
-use papers::implied::Selections;
+use paths::implied::Equal;
+use paths::implied::Equalities;
+use paths::implied::Selected;
+use paths::implied::Selections;
 ghost use mathlib.Core.Path.{_≡_};
 ghost use mathlib.Core.Bool.{true, false, not};
 ghost use mathlib.Core.List.{[], map};
@@ -16,7 +16,7 @@ ghost use lib.Dec.{eqb};
 ghost use Rattle.ground.specs.Lists.{any};
 ghost use Rattle.ground.specs.Outcome.{verdictOf};
 ghost use Rattle.envelopes.specs.Rules.{Within};
-ghost use Rattle.papers.specs.Meaning.{wordIn};
+ghost use Rattle.paths.specs.Meaning.{wordIn};
 ghost use Rattle.semijoin.specs.Offsets.{rowCount};
 ghost use Rattle.semijoin.specs.Shape.{shaped};
 ghost use Rattle.semijoin.specs.Local.{openedIn, openOutcome};
@@ -128,13 +128,13 @@ pub(crate) fn open_all(envelope: Envelope, tables: &[u32], here: [bool; 8], mark
     requires { ⌜ Within envelope × (shaped envelope (now tables) ≡ true) × (rowCount envelope (now tables) ≤ length (now marks)) ⌝ }
     ensures { λ r. ⌜ now (marks .exit) ≡ openedIn envelope (now (tables .entry)) (λ r. getD here r false) (now (marks .entry)) ⌝ }
 {
-    let labels = papers::labels::labels_of(envelope);
+    let labels = paths::labels::labels_of(envelope);
     let end = ground::used::in_use(8, envelope.relation_count);
     let mut relation: u8 = 0;
     while (relation as usize) < end {
         let extent = crate::offsets::extent_of(envelope, tables, relation);
-        let selections = papers::implied::selections_by(envelope, labels, relation);
-        let equalities = papers::implied::equalities_by(envelope, labels, relation);
+        let selections = paths::implied::selections_by(envelope, labels, relation);
+        let equalities = paths::implied::equalities_by(envelope, labels, relation);
         let own = here[relation as usize];
         open_rows(tables, extent, own, selections, equalities, marks);
         relation += 1;

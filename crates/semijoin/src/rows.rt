@@ -6,7 +6,7 @@ ghost use mathlib.Core.List.{[]};
 ghost use Prim.Native.Nat.{_+_, _*_, _<_, _≤_};
 ghost use lib.ListN.{length, getD, set};
 ghost use Rattle.ground.specs.Tests.{pick};
-ghost use Rattle.papers.specs.Meaning.{wordIn};
+ghost use Rattle.paths.specs.Meaning.{wordIn};
 ghost use Rattle.semijoin.specs.Marks.{isKept};
 ghost use Rattle.semijoin.specs.Extents.{rowsOver, marksOver, wordOver, keptOver};
 

@@ -2,7 +2,7 @@
 use envelopes::envelope::Envelope;
 use ground::Verdict;
 use papers::programs::Program;
-use papers::steps::Step;
+use paths::steps::Step;
 ghost use mathlib.Core.Path.{_≡_};
 ghost use mathlib.Core.Bool.{true};
 ghost use Prim.Native.Nat.{_≤_};
@@ -10,7 +10,7 @@ ghost use lib.ListN.{length, take};
 ghost use Rattle.ground.specs.Lists.{Every};
 ghost use Rattle.ground.specs.Outcome.{verdictOf};
 ghost use Rattle.envelopes.specs.Rules.{Within};
-ghost use Rattle.papers.specs.Steps.{isPlace, legal};
+ghost use Rattle.paths.specs.Steps.{isPlace, legal};
 ghost use Rattle.papers.specs.Programs.{stepsOf};
 ghost use Rattle.semijoin.specs.Offsets.{rowCount};
 ghost use Rattle.semijoin.specs.Shape.{shaped};

@@ -57,7 +57,7 @@ pub fn judge_column(envelope: Envelope, place: Place, tables: &[u32], n: usize) 
     match verdict {
         Verdict::Refused { number, position } => Verdict::Refused { number, position },
         Verdict::Taken => {
-            if !papers::steps::is_place(envelope, place) {
+            if !paths::steps::is_place(envelope, place) {
                 return Verdict::Refused {
                     number: refusals::NOT_OURS,
                     position: 0,

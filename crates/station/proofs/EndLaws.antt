@@ -23,15 +23,15 @@ use Rattle.fields.specs.Refusals.{beyondLimit}
 use Rattle.envelopes.specs.Parts.{relationCount}
 use Rattle.envelopes.specs.Sites.{isAt}
 use Rattle.envelopes.specs.declared.envelope.Envelope.{Envelope}
-use Rattle.papers.specs.Steps.{legal, LegalStep}
+use Rattle.paths.specs.Steps.{legal, LegalStep}
 use Rattle.papers.specs.Programs.{noStep, stepsOf}
-use Rattle.papers.specs.declared.steps.Step.{Step}
+use Rattle.paths.specs.declared.steps.Step.{Step}
 use Rattle.papers.specs.Checks.{papersOf, shownPapers}
 use Rattle.papers.specs.declared.programs.Program.{Program}
 use Rattle.papers.specs.declared.checks.Papers.{Papers}
 use Rattle.papers.specs.declared.checks.PapersRead.{PapersRead}
 use Rattle.papers.proofs.CheckLaws.{GoodPapers, papers-taken, papers-refused, papers-sound}
-use Rattle.papers.proofs.StepLaws.{legal-step}
+use Rattle.paths.proofs.StepLaws.{legal-step}
 use Rattle.semijoin.specs.Shape.{marksTests, judgement}
 use Rattle.semijoin.proofs.JudgedLaws.{judge-refused, judge-taken, marks-pass}
 use Rattle.station.specs.Reducing.{stepCount, stepOf, reduces, reducing, placeOf}

@@ -14,7 +14,7 @@ use Rattle.entries.specs.declared.places.Place.{Place}
 use Rattle.envelopes.specs.Parts.{relationCount}
 use Rattle.envelopes.specs.Kept.{keptColumns}
 use Rattle.envelopes.specs.declared.envelope.Envelope.{Envelope}
-use Rattle.papers.specs.Meaning.{Row, wordIn}
+use Rattle.paths.specs.Meaning.{Row, wordIn}
 use Rattle.semijoin.specs.Offsets.{countIn, rowCount}
 use Rattle.semijoin.specs.Shape.{shaped}
 use Rattle.semijoin.specs.Marks.{reducedBy}

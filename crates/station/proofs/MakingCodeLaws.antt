@@ -18,9 +18,9 @@ use Rattle.ground.proofs.TestLaws.{and-left}
 use Rattle.fields.specs.Refusals.{tooShort, waiting, notOurs}
 use Rattle.envelopes.specs.Sites.{isAt}
 use Rattle.envelopes.specs.declared.envelope.Envelope.{Envelope}
-use Rattle.papers.specs.Steps.{isPlace}
+use Rattle.paths.specs.Steps.{isPlace}
 use Rattle.papers.specs.Checks.{shownPapers}
-use Rattle.papers.specs.declared.steps.Step.{Step}
+use Rattle.paths.specs.declared.steps.Step.{Step}
 use Rattle.papers.specs.declared.programs.Program.{Program}
 use Rattle.papers.specs.declared.checks.Papers.{Papers}
 use Rattle.papers.specs.declared.checks.PapersRead.{PapersRead}

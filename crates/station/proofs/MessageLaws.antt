@@ -13,7 +13,7 @@ use Rattle.ground.specs.Tests.{pick}
 use Rattle.ground.specs.Lists.{each, Every}
 use Rattle.ground.proofs.OutcomeLaws.{never}
 use Rattle.ground.proofs.TestLaws.{and-left, and-right, and-both}
-use Rattle.papers.specs.Meaning.{Row, Table, rowsIn}
+use Rattle.paths.specs.Meaning.{Row, Table, rowsIn}
 use Rattle.semijoin.specs.Rising.{isRising}
 use Rattle.station.specs.Messages.{valueMessage, rowMessage, runOf, markOf, countOf, bodyOf, aboutOf, counted, soundValues, rowsOf}
 use Rattle.station.specs.declared.messages.About.{About}

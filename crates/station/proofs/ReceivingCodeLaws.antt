@@ -10,7 +10,7 @@ use Rattle.ground.specs.Outcome.Outcome.{good, bad}
 use Rattle.ground.specs.declared.Verdict.the-variants.{Taken, Refused}
 use Rattle.fields.specs.Refusals.{endsInside, otherRun, notOurs}
 use Rattle.papers.specs.Checks.{shownPapers}
-use Rattle.papers.specs.declared.steps.Step.{Step}
+use Rattle.paths.specs.declared.steps.Step.{Step}
 use Rattle.papers.specs.declared.checks.Papers.{Papers}
 use Rattle.papers.specs.declared.checks.PapersRead.{PapersRead}
 use Rattle.station.specs.Reducing.{stepCount}

@@ -15,9 +15,9 @@ use Rattle.ground.proofs.ListLaws.{filter-length}
 use Rattle.ground.proofs.NumbersLaws.{below-length}
 use Rattle.entries.specs.Places.{noPlace}
 use Rattle.entries.specs.declared.places.Place.{Place}
-use Rattle.papers.specs.Steps.{step}
+use Rattle.paths.specs.Steps.{step}
 use Rattle.papers.specs.Programs.{noStep, stepsOf}
-use Rattle.papers.specs.declared.steps.Step.{Step}
+use Rattle.paths.specs.declared.steps.Step.{Step}
 use Rattle.papers.specs.declared.programs.Program.{Program}
 use Rattle.station.specs.Reducing.{stepCount, stepOf, reduces, reducing, placeOf, isMissing, firstMissing, missingIn, missingOf}
 use Rattle.station.specs.declared.reducing.Missing.{Missing}

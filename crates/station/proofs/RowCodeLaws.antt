@@ -20,7 +20,7 @@ use Rattle.envelopes.specs.Parts.{relationCount, columnsIn}
 use Rattle.envelopes.specs.Kept.{keptColumns, kept, shownColumns}
 use Rattle.envelopes.specs.declared.envelope.Envelope.{Envelope}
 use Rattle.envelopes.specs.declared.kept.Columns.{Columns}
-use Rattle.papers.specs.Meaning.{Row, Table, wordIn}
+use Rattle.paths.specs.Meaning.{Row, Table, wordIn}
 use Rattle.semijoin.specs.Offsets.{countIn, rowCount}
 use Rattle.semijoin.specs.Shape.{shaped}
 use Rattle.semijoin.specs.Marks.{keptRows}

@@ -27,8 +27,8 @@ use Rattle.envelopes.specs.Rules.{Within, tidy}
 use Rattle.envelopes.specs.Envelope.{envelopeBytes}
 use Rattle.envelopes.specs.declared.envelope.Envelope.{Envelope}
 use Rattle.envelopes.proofs.ExactEnvelope.{check-complete}
-use Rattle.papers.specs.Steps.{isPlace}
-use Rattle.papers.specs.Meaning.{Row, Table, wordIn}
+use Rattle.paths.specs.Steps.{isPlace}
+use Rattle.paths.specs.Meaning.{Row, Table, wordIn}
 use Rattle.semijoin.specs.Offsets.{countIn, rowCount, rowsAt, marksAt}
 use Rattle.semijoin.specs.Shape.{shaped, marksTests, columnTests, judgement}
 use Rattle.semijoin.specs.Rising.{isRising}

@@ -19,8 +19,8 @@ use Rattle.envelopes.specs.Sites.{isAt}
 use Rattle.envelopes.specs.Kept.{keptColumns, shownColumns}
 use Rattle.envelopes.specs.declared.envelope.Envelope.{Envelope}
 use Rattle.envelopes.specs.declared.kept.Columns.{Columns}
-use Rattle.papers.specs.Steps.{isPlace}
-use Rattle.papers.specs.declared.steps.Step.{Step}
+use Rattle.paths.specs.Steps.{isPlace}
+use Rattle.paths.specs.declared.steps.Step.{Step}
 use Rattle.papers.specs.declared.checks.Papers.{Papers}
 use Rattle.papers.proofs.CheckLaws.{GoodPapers}
 use Rattle.semijoin.specs.Rising.{isRising}

@@ -14,7 +14,7 @@ use Rattle.fields.specs.Refusals.{tooShort, waiting, notOurs}
 use Rattle.envelopes.specs.Sites.{isAt}
 use Rattle.envelopes.specs.Kept.{keptColumns}
 use Rattle.envelopes.specs.declared.envelope.Envelope.{Envelope}
-use Rattle.papers.specs.Meaning.{Row, Table, wordIn}
+use Rattle.paths.specs.Meaning.{Row, Table, wordIn}
 use Rattle.papers.specs.declared.programs.Program.{Program}
 use Rattle.papers.specs.declared.checks.Papers.{Papers}
 use Rattle.semijoin.specs.Marks.{keptRows}

@@ -15,7 +15,7 @@ use Rattle.fields.specs.Refusals.{endsInside, tooShort, otherRun, notOurs, notS
 use Rattle.envelopes.specs.Parts.{relationCount}
 use Rattle.envelopes.specs.Sites.{isAt}
 use Rattle.envelopes.specs.Kept.{keptColumns}
-use Rattle.papers.specs.declared.steps.Step.{Step}
+use Rattle.paths.specs.declared.steps.Step.{Step}
 use Rattle.papers.specs.declared.checks.Papers.{Papers}
 use Rattle.semijoin.specs.Marks.{reducedBy}
 use Rattle.station.specs.Reducing.{stepCount, stepOf, placeOf}

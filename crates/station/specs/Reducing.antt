@@ -8,7 +8,7 @@ use lib.Dec.{eqb, ltb}
 use Rattle.ground.specs.Tests.{pick}
 use Rattle.ground.specs.Lists.{filter, below}
 use Rattle.papers.specs.Programs.{noStep, stepsOf}
-use Rattle.papers.specs.declared.steps.Step.{Step}
+use Rattle.paths.specs.declared.steps.Step.{Step}
 use Rattle.papers.specs.declared.programs.Program.{Program}
 use Rattle.station.specs.declared.reducing.Missing.{Missing}
 use Rattle.station.specs.declared.reducing.Missing.the-variants.{First, None}

@@ -6,7 +6,7 @@ use ground::Verdict;
 use papers::checks::Papers;
 use papers::checks::PapersRead;
 use papers::programs::Program;
-use papers::steps::Step;
+use paths::steps::Step;
 ghost use mathlib.Core.Path.{_≡_};
 ghost use Prim.Native.Nat.{min};
 ghost use lib.ListN.{getD};

@@ -1,6 +1,6 @@
 // The steps of a relation in program order: how many there are before a step, and which is the first that is missing.
 use papers::programs::Program;
-use papers::steps::Step;
+use paths::steps::Step;
 ghost use mathlib.Core.Path.{_≡_};
 ghost use Prim.Native.Nat.{min};
 ghost use lib.ListN.{length, getD, take};

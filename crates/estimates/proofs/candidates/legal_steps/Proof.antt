@@ -9,8 +9,8 @@ use Rattle.estimates.proofs.candidates.legal_steps.Reads as reads
 use Rattle.estimates.proofs.candidates.legal_steps.Lts as lts
 use Rattle.estimates.proofs.candidates.no_step.Reads as no-step-reads
 use Rattle.estimates.proofs.candidates.step_at.Reads as step-at-reads
-use Rattle.papers.proofs.labels.labels_of.Reads as labels-of-reads
-use Rattle.papers.proofs.steps.legal_by.Reads as legal-by-reads
+use Rattle.paths.proofs.labels.labels_of.Reads as labels-of-reads
+use Rattle.paths.proofs.steps.legal_by.Reads as legal-by-reads
 
 abbrev Inv-loop : tie.InvT-loop
 Inv-loop envelope labels all₀ count₀ k₀ all count k = Listing envelope k count all

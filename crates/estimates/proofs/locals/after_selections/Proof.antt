@@ -7,7 +7,7 @@ use Rattle.estimates.proofs.locals.after_selections.Tie as tie
 use Rattle.estimates.proofs.locals.after_selections.Reads as reads
 use Rattle.estimates.proofs.locals.after_selections.Lts as lts
 use Rattle.estimates.proofs.profiles.Profile.after_selection.Reads as after-selection-reads
-use Rattle.papers.proofs.implied.selections_by.Reads as selections-by-reads
+use Rattle.paths.proofs.implied.selections_by.Reads as selections-by-reads
 
 abbrev Inv-loop : tie.InvT-loop
 Inv-loop relation all end now₀ i₀ now i = Applying now₀ relation all end i now

@@ -9,7 +9,7 @@ use Rattle.estimates.proofs.locals.local_profile.Lts as lts
 use Rattle.ground.proofs.used.in_use.Reads as in-use-reads
 use Rattle.estimates.proofs.locals.after_selections.Reads as after-selections-reads
 use Rattle.estimates.proofs.profiles.given.Reads as given-reads
-use Rattle.papers.proofs.labels.labels_of.Reads as labels-of-reads
+use Rattle.paths.proofs.labels.labels_of.Reads as labels-of-reads
 
 abbrev Inv-loop : tie.InvT-loop
 Inv-loop envelope labels end now₀ relation₀ now relation = Localizing envelope end relation now

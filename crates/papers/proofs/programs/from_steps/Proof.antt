@@ -1,5 +1,5 @@
-use Rattle.papers.specs.Steps.{legalBy}
-use Rattle.papers.specs.Labels.{byLabels}
+use Rattle.paths.specs.Steps.{legalBy}
+use Rattle.paths.specs.Labels.{byLabels}
 use Prim.Native.Nat.{_-_}
 use Rattle.papers.proofs.ProgramCodeLaws.{Steps, steps-start, steps-more, steps-bad, steps-left, steps-done}
 use borrow.Author.Needs.{needs}

@@ -5,7 +5,7 @@ use Rattle.papers.proofs.programs.read_program.Tie as tie
 use Rattle.papers.proofs.programs.read_program.Reads as reads
 use Rattle.papers.proofs.programs.read_program.Lts as lts
 use Rattle.envelopes.proofs.reading.check_envelope.Reads as check-envelope-reads
-use Rattle.papers.proofs.labels.labels_of.Reads as labels-of-reads
+use Rattle.paths.proofs.labels.labels_of.Reads as labels-of-reads
 use Rattle.papers.proofs.programs.read_program_by.Reads as read-program-by-reads
 use Rattle.papers.proofs.programs.refused_program.Reads as refused-program-reads
 

@@ -5,7 +5,7 @@ use Rattle.papers.proofs.programs.read_step.Tie as tie
 use Rattle.papers.proofs.programs.read_step.Reads as reads
 use Rattle.papers.proofs.programs.read_step.Lts as lts
 use Rattle.entries.proofs.places.read_place.Reads as read-place-reads
-use Rattle.papers.proofs.steps.legal_by.Reads as legal-by-reads
+use Rattle.paths.proofs.steps.legal_by.Reads as legal-by-reads
 
 read-place-requires : tie.Need-read-place-requires
 read-place-requires c κs = search needs

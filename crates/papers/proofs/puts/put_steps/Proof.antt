@@ -1,5 +1,5 @@
 use Prim.Native.Nat.{_-_}
-use Rattle.papers.specs.Steps.{stepBytes}
+use Rattle.paths.specs.Steps.{stepBytes}
 use Rattle.ground.proofs.WritingLaws.{Writing, writing-start, writing-more, writing-place, writing-done}
 use borrow.Author.Needs.{needs}
 use native.Mathlib.Omega.{arith}

@@ -5,7 +5,7 @@ use Prim.Native.Nat.{_-_}
 use mathlib.Core.List.{[]}
 use lib.ListN.{getD}
 use Rattle.semijoin.specs.Extents.{rowsOver}
-use Rattle.papers.specs.Implied.{selected}
+use Rattle.paths.specs.Implied.{selected}
 use Rattle.semijoin.proofs.LocalCodeLaws.{breaksSelection}
 use borrow.Author.Needs.{needs}
 use native.Mathlib.Omega.{arith}

@@ -11,9 +11,9 @@ use Rattle.semijoin.proofs.local.open_all.Tie as tie
 use Rattle.semijoin.proofs.local.open_all.Reads as reads
 use Rattle.semijoin.proofs.local.open_all.Lts as lts
 use Rattle.ground.proofs.used.in_use.Reads as in-use-reads
-use Rattle.papers.proofs.implied.equalities_by.Reads as equalities-by-reads
-use Rattle.papers.proofs.implied.selections_by.Reads as selections-by-reads
-use Rattle.papers.proofs.labels.labels_of.Reads as labels-of-reads
+use Rattle.paths.proofs.implied.equalities_by.Reads as equalities-by-reads
+use Rattle.paths.proofs.implied.selections_by.Reads as selections-by-reads
+use Rattle.paths.proofs.labels.labels_of.Reads as labels-of-reads
 use Rattle.semijoin.proofs.local.open_rows.Reads as open-rows-reads
 use Rattle.semijoin.proofs.offsets.extent_of.Reads as extent-of-reads
 

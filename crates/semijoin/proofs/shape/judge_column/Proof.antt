@@ -4,7 +4,7 @@ use Rattle.semijoin.proofs.shape.judge_column.Statement.{statement}
 use Rattle.semijoin.proofs.shape.judge_column.Tie as tie
 use Rattle.semijoin.proofs.shape.judge_column.Reads as reads
 use Rattle.semijoin.proofs.shape.judge_column.Lts as lts
-use Rattle.papers.proofs.steps.is_place.Reads as is-place-reads
+use Rattle.paths.proofs.steps.is_place.Reads as is-place-reads
 use Rattle.semijoin.proofs.shape.judge_marks.Reads as judge-marks-reads
 
 -- src/shape.rt:56:9

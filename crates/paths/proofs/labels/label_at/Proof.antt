@@ -1,0 +1,19 @@
+use native.Mathlib.Omega.{arith}
+use Rattle.paths.proofs.LabelCodeLaws.{no-label}
+use borrow.Author.Needs.{needs}
+use Rattle.paths.proofs.labels.label_at.Statement.{statement}
+use Rattle.paths.proofs.labels.label_at.Tie as tie
+use Rattle.paths.proofs.labels.label_at.Reads as reads
+use Rattle.paths.proofs.labels.label_at.Lts as lts
+
+returns : tie.Need-returns
+returns c = no-label (c .before .args .t1) (c .before .args .i) (omega arith)
+
+array-read-result : tie.Need-array-read-result
+array-read-result c = search needs
+
+returns-2 : tie.Need-returns-2
+returns-2 c = search needs
+
+pub label-at-spec : {M : Type 1} → statement M
+label-at-spec = tie.close (tie.spec returns array-read-result returns-2)
