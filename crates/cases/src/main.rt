@@ -1,7 +1,7 @@
 // Papers at their limits, run: each line that is printed is how one paper is answered, the refusals 1 to 9 with their
 // positions among them. The small envelope below is taken; each case changes it in one place.
+use contents::envelope::Envelope;
 use entries::places::Place;
-use envelopes::envelope::Envelope;
 use fields::puts::Written;
 use ground::Verdict;
 use papers::programs::Program;

@@ -17,13 +17,13 @@ use Rattle.fields.proofs.NumberLaws.{number-good, number-bad}
 use Rattle.entries.specs.Relations.{noRelation}
 use Rattle.entries.specs.Places.{noPlace}
 use Rattle.entries.specs.Clauses.{noClause}
-use Rattle.envelopes.specs.Parts.{noEnvelope, withSizes, withRelations, withClauses, withTargets}
+use Rattle.contents.specs.Parts.{noEnvelope, withSizes, withRelations, withClauses, withTargets}
 use Rattle.envelopes.specs.Envelope.{filled, listInto, shownPart}
 use Rattle.entries.specs.declared.places.Place.{Place}
 use Rattle.entries.specs.declared.relations.Relation.{Relation}
 use Rattle.entries.specs.declared.clauses.Clause.{Clause}
-use Rattle.envelopes.specs.declared.envelope.Envelope.{Envelope}
-use Rattle.envelopes.specs.declared.envelope.EnvelopePart.{EnvelopePart}
+use Rattle.contents.specs.declared.envelope.Envelope.{Envelope}
+use Rattle.envelopes.specs.declared.sections.EnvelopePart.{EnvelopePart}
 
 -- ---- what a part says of the outcome
 

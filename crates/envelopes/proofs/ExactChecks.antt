@@ -17,8 +17,8 @@ use Rattle.fields.proofs.PutLaws.{written-back}
 use Rattle.entries.specs.Relations.{columnsOf, relationBytes}
 use Rattle.entries.specs.Places.{placeBytes}
 use Rattle.entries.specs.Clauses.{clauseBytes}
-use Rattle.envelopes.specs.Parts.{sizesOf, relationsOf, clausesOf, targetsOf}
-use Rattle.envelopes.specs.Kept.{keptColumns}
+use Rattle.contents.specs.Parts.{sizesOf, relationsOf, clausesOf, targetsOf}
+use Rattle.contents.specs.Kept.{keptColumns}
 use Rattle.envelopes.specs.Envelope.{CPN, readEnvelope, envelopeBytes, checkEnvelope, envelopeWritten, envelopeWrittenIn}
 use Rattle.envelopes.specs.Rules.{Between, RelationWithin, PlaceWithin, KindWithin, ClauseWithin, Within, tidyRelation, tidy}
 use Rattle.envelopes.specs.Fits.{PlaceFits, RelationFits, ClauseFits, Fits}
@@ -26,7 +26,7 @@ use Rattle.entries.specs.declared.places.Place.{Place}
 use Rattle.entries.specs.declared.relations.Relation.{Relation}
 use Rattle.entries.specs.declared.clauses.ClauseKind.{ClauseKind}
 use Rattle.entries.specs.declared.clauses.ClauseKind.the-variants.{Selection, Join}
-use Rattle.envelopes.specs.declared.envelope.Envelope.{Envelope}
+use Rattle.contents.specs.declared.envelope.Envelope.{Envelope}
 use Rattle.envelopes.proofs.ExactRelations.{columns-of-with}
 use Rattle.envelopes.proofs.TidyLaws.{tidy-count, tidy-domain, tidy-is, tidy-sizes, tidy-relations, tidy-clauses, tidy-targets, tidy-kept-columns}
 use Rattle.envelopes.proofs.ExactEnvelope.{check-sound, check-complete}

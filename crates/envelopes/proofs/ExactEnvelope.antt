@@ -25,14 +25,14 @@ use Rattle.fields.proofs.ExactNumbers.{in-exact, counted-exact, head-exact}
 use Rattle.entries.specs.Relations.{noRelation, relationAt, relationBytes}
 use Rattle.entries.specs.Places.{noPlace, placeAt, placeBytes}
 use Rattle.entries.specs.Clauses.{noClause, clauseAt, clauseBytes}
-use Rattle.envelopes.specs.Parts.{sizesOf, relationsOf, clausesOf, targetsOf, relationCount, noEnvelope, withVersion, withSizes, withRelations, withClauses, withTargets}
-use Rattle.envelopes.specs.Kept.{keptColumns, firstBare}
+use Rattle.contents.specs.Parts.{sizesOf, relationsOf, clausesOf, targetsOf, relationCount, noEnvelope, withVersion, withSizes, withRelations, withClauses, withTargets}
+use Rattle.contents.specs.Kept.{keptColumns, firstBare}
 use Rattle.envelopes.specs.Envelope.{CPN, filled, listInto, sizeAt, ended, targetsThen, clausesThen, relationsThen, sizesThen, envelopeFrom, readEnvelope, envelopeBytes, checkEnvelope}
 use Rattle.envelopes.specs.Rules.{Between, RelationWithin, PlaceWithin, ClauseWithin, Within, tidyRelation, tidy}
 use Rattle.entries.specs.declared.places.Place.{Place}
 use Rattle.entries.specs.declared.relations.Relation.{Relation}
 use Rattle.entries.specs.declared.clauses.Clause.{Clause}
-use Rattle.envelopes.specs.declared.envelope.Envelope.{Envelope}
+use Rattle.contents.specs.declared.envelope.Envelope.{Envelope}
 use Rattle.envelopes.proofs.WrittenBytes.{envelope-bytes}
 use Rattle.envelopes.proofs.ExactPlaces.{named-exact}
 use Rattle.envelopes.proofs.ExactRelations.{relation-exact}

@@ -1,7 +1,4 @@
 -- The laws of the definitions in specs/, file by file under the same names.
-pub mod PartLaws
-pub mod SiteLaws
-pub mod KeptLaws
 pub mod EnvelopeLaws
 pub mod PutLaws
 pub mod ReadingLaws

@@ -14,7 +14,7 @@ use Rattle.fields.proofs.PutLaws.{then-put}
 use Rattle.entries.specs.Places.{placeBytes}
 use Rattle.entries.specs.Relations.{columnsOf, columnBytes, relationBytes}
 use Rattle.entries.specs.Clauses.{kindBytes, clauseBytes}
-use Rattle.envelopes.specs.Parts.{sizesOf, relationsOf, clausesOf, targetsOf}
+use Rattle.contents.specs.Parts.{sizesOf, relationsOf, clausesOf, targetsOf}
 use Rattle.envelopes.specs.Envelope.{CPN, envelopeBytes}
 use Rattle.entries.specs.declared.places.Place.{Place}
 use Rattle.entries.specs.declared.relations.Column.{Column}
@@ -22,7 +22,7 @@ use Rattle.entries.specs.declared.relations.Relation.{Relation}
 use Rattle.entries.specs.declared.clauses.Clause.{Clause}
 use Rattle.entries.specs.declared.clauses.ClauseKind.{ClauseKind}
 use Rattle.entries.specs.declared.clauses.ClauseKind.the-variants.{Selection, Join}
-use Rattle.envelopes.specs.declared.envelope.Envelope.{Envelope}
+use Rattle.contents.specs.declared.envelope.Envelope.{Envelope}
 
 -- ---- parts of a fixed length
 

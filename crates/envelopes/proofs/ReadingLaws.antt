@@ -22,13 +22,13 @@ use Rattle.fields.specs.declared.puts.Written.{Written}
 use Rattle.fields.specs.declared.puts.Written.the-variants as w
 use Rattle.fields.proofs.NumberLaws.{number-good, number-bad, in-good}
 use Rattle.fields.proofs.PutLaws.{written-refused, written-front}
-use Rattle.envelopes.specs.Parts.{relationCount, noEnvelope, withVersion, withSizes}
-use Rattle.envelopes.specs.Kept.{firstBare, shownBare}
+use Rattle.contents.specs.Parts.{relationCount, noEnvelope, withVersion, withSizes}
+use Rattle.contents.specs.Kept.{firstBare, shownBare}
 use Rattle.envelopes.specs.Envelope.{CPN, sizeAt, filled, listInto, sizesInto, relationsInto, clausesInto, targetsInto, ended, targetsThen, clausesThen, relationsThen, sizesThen, envelopeFrom, readEnvelope, envelopeBytes, checkEnvelope, envelopeWritten, envelopeWrittenIn, shownPart, shownEnvelope}
-use Rattle.envelopes.specs.declared.kept.Bare.{Bare}
-use Rattle.envelopes.specs.declared.kept.Bare.the-variants.{Lowest, None}
-use Rattle.envelopes.specs.declared.envelope.Envelope.{Envelope}
-use Rattle.envelopes.specs.declared.envelope.EnvelopePart.{EnvelopePart}
+use Rattle.contents.specs.declared.kept.Bare.{Bare}
+use Rattle.contents.specs.declared.kept.Bare.the-variants.{Lowest, None}
+use Rattle.contents.specs.declared.envelope.Envelope.{Envelope}
+use Rattle.envelopes.specs.declared.sections.EnvelopePart.{EnvelopePart}
 use Rattle.envelopes.specs.declared.reading.EnvelopeRead.{EnvelopeRead}
 use Rattle.envelopes.proofs.EnvelopeLaws.{part-taken, part-refused}
 

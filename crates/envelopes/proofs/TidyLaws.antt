@@ -14,9 +14,9 @@ use Rattle.ground.proofs.CollectingLaws.{padded-take, padded-inside}
 use Rattle.entries.specs.Relations.{noColumn, noRelation, pastRelation, columnCount, columnsOf, relationBytes}
 use Rattle.entries.specs.Places.{noPlace}
 use Rattle.entries.specs.Clauses.{noClause, domainOf}
-use Rattle.envelopes.specs.Parts.{sizesOf, relationsOf, clausesOf, targetsOf, relationCount, columnsIn, noEnvelope, withVersion, withSizes, withRelations, withClauses, withTargets}
-use Rattle.envelopes.specs.Sites.{siteOf, isAt, holds}
-use Rattle.envelopes.specs.Kept.{kept, keptColumns}
+use Rattle.contents.specs.Parts.{sizesOf, relationsOf, clausesOf, targetsOf, relationCount, columnsIn, noEnvelope, withVersion, withSizes, withRelations, withClauses, withTargets}
+use Rattle.contents.specs.Sites.{siteOf, isAt, holds}
+use Rattle.contents.specs.Kept.{kept, keptColumns}
 use Rattle.envelopes.specs.Envelope.{envelopeBytes}
 use Rattle.envelopes.specs.Rules.{RelationWithin, PlaceWithin, KindWithin, ClauseWithin, Within, tidyRelation, tidy}
 use Rattle.entries.specs.declared.places.Place.{Place}
@@ -25,8 +25,8 @@ use Rattle.entries.specs.declared.relations.Relation.{Relation}
 use Rattle.entries.specs.declared.clauses.Clause.{Clause}
 use Rattle.entries.specs.declared.clauses.ClauseKind.{ClauseKind}
 use Rattle.entries.specs.declared.clauses.ClauseKind.the-variants.{Selection, Join}
-use Rattle.envelopes.specs.declared.envelope.Envelope.{Envelope}
-use Rattle.envelopes.proofs.PartLaws.{relation-inside}
+use Rattle.contents.specs.declared.envelope.Envelope.{Envelope}
+use Rattle.contents.proofs.PartLaws.{relation-inside}
 use Rattle.envelopes.proofs.ExactRelations.{columns-of-with}
 use Rattle.envelopes.proofs.ExactClauses.{domain-padded}
 

@@ -18,10 +18,10 @@ use Rattle.fields.specs.declared.puts.Written.{Written}
 use Rattle.entries.specs.Relations.{relationAt, relationBytes}
 use Rattle.entries.specs.Places.{placeAt, placeBytes}
 use Rattle.entries.specs.Clauses.{clauseAt, clauseBytes}
-use Rattle.envelopes.specs.Parts.{sizesOf, relationsOf, clausesOf, targetsOf, relationCount, noEnvelope, withVersion, withSizes, withRelations, withClauses, withTargets}
-use Rattle.envelopes.specs.Kept.{firstBare}
-use Rattle.envelopes.specs.declared.envelope.Envelope.{Envelope}
-use Rattle.envelopes.specs.declared.envelope.EnvelopePart.{EnvelopePart}
+use Rattle.contents.specs.Parts.{sizesOf, relationsOf, clausesOf, targetsOf, relationCount, noEnvelope, withVersion, withSizes, withRelations, withClauses, withTargets}
+use Rattle.contents.specs.Kept.{firstBare}
+use Rattle.contents.specs.declared.envelope.Envelope.{Envelope}
+use Rattle.envelopes.specs.declared.sections.EnvelopePart.{EnvelopePart}
 use Rattle.envelopes.specs.declared.reading.EnvelopeRead.{EnvelopeRead}
 
 -- ---- the paper, read

@@ -13,15 +13,15 @@ use Rattle.ground.specs.Lists.{Every, below, empty}
 use Rattle.entries.specs.Relations.{pastRelation, columnCount, columnsOf, relationWith}
 use Rattle.entries.specs.Places.{samePlace}
 use Rattle.entries.specs.Clauses.{domainOf}
-use Rattle.envelopes.specs.Parts.{sizesOf, relationsOf, clausesOf, targetsOf, noEnvelope, withVersion, withSizes, withRelations, withClauses, withTargets}
-use Rattle.envelopes.specs.Kept.{keptColumns}
+use Rattle.contents.specs.Parts.{sizesOf, relationsOf, clausesOf, targetsOf, noEnvelope, withVersion, withSizes, withRelations, withClauses, withTargets}
+use Rattle.contents.specs.Kept.{keptColumns}
 use Rattle.entries.specs.declared.places.Place.{Place}
 use Rattle.entries.specs.declared.relations.Column.{Column}
 use Rattle.entries.specs.declared.relations.Relation.{Relation}
 use Rattle.entries.specs.declared.clauses.Clause.{Clause}
 use Rattle.entries.specs.declared.clauses.ClauseKind.{ClauseKind}
 use Rattle.entries.specs.declared.clauses.ClauseKind.the-variants.{Selection, Join}
-use Rattle.envelopes.specs.declared.envelope.Envelope.{Envelope}
+use Rattle.contents.specs.declared.envelope.Envelope.{Envelope}
 
 abbrev pub Between : ℕ → ℕ → ℕ → Type 0
 Between low high v = (low ≤ v) × (v ≤ high)

@@ -1,6 +1,6 @@
 // An envelope put into a lent buffer, part behind part, as far as the buffer goes. Each function answers the position
 // past the bytes of its part, which is no further than the part's greatest length, so that positions fit.
-use crate::envelope::Envelope;
+use contents::envelope::Envelope;
 use entries::clauses::Clause;
 use entries::clauses::ClauseKind;
 use entries::places::Place;

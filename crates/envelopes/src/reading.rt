@@ -1,7 +1,7 @@
 // The whole envelope: read from bytes, the mark and version, the parts one after the other, then 7, then 9; checked as its
 // bytes would be; and written.
-use crate::envelope::Envelope;
-use crate::kept::Bare;
+use contents::envelope::Envelope;
+use contents::kept::Bare;
 use fields::numbers::NumberRead;
 use fields::puts::Written;
 use fields::refusals;
@@ -31,7 +31,7 @@ pub struct EnvelopeRead {
 fn refused_envelope(number: u8, position: usize) -> EnvelopeRead
     ensures { λ r. ⌜ r ≡ shownEnvelope (bad number position) ⌝ }
 {
-    let envelope = crate::envelope::no_envelope();
+    let envelope = contents::envelope::no_envelope();
     EnvelopeRead {
         verdict: Verdict::Refused { number, position },
         envelope: envelope,
@@ -45,7 +45,7 @@ fn at_end(s: &[u8], at: usize, envelope: Envelope) -> EnvelopeRead
     if at < s.len() {
         return refused_envelope(refusals::LEFT_OVER, at);
     }
-    match crate::kept::lowest_bare(envelope) {
+    match contents::kept::lowest_bare(envelope) {
         Bare::Lowest(relation) => refused_envelope(refusals::NO_KEPT_COLUMN, relation as usize),
         Bare::None => EnvelopeRead {
             verdict: Verdict::Taken,
@@ -57,7 +57,7 @@ fn at_end(s: &[u8], at: usize, envelope: Envelope) -> EnvelopeRead
 fn from_targets(s: &[u8], at: usize, envelope: Envelope) -> EnvelopeRead
     ensures { λ r. ⌜ r ≡ shownEnvelope (targetsThen (now (s .entry)) at envelope) ⌝ }
 {
-    let part = crate::envelope::read_targets(s, at, envelope);
+    let part = crate::sections::read_targets(s, at, envelope);
     let verdict = part.verdict;
     match verdict {
         Verdict::Refused { number, position } => refused_envelope(number, position),
@@ -71,7 +71,7 @@ fn from_targets(s: &[u8], at: usize, envelope: Envelope) -> EnvelopeRead
 fn from_clauses(s: &[u8], at: usize, envelope: Envelope) -> EnvelopeRead
     ensures { λ r. ⌜ r ≡ shownEnvelope (clausesThen (now (s .entry)) at envelope) ⌝ }
 {
-    let part = crate::envelope::read_clauses(s, at, envelope);
+    let part = crate::sections::read_clauses(s, at, envelope);
     let verdict = part.verdict;
     match verdict {
         Verdict::Refused { number, position } => refused_envelope(number, position),
@@ -85,7 +85,7 @@ fn from_clauses(s: &[u8], at: usize, envelope: Envelope) -> EnvelopeRead
 fn from_relations(s: &[u8], at: usize, envelope: Envelope) -> EnvelopeRead
     ensures { λ r. ⌜ r ≡ shownEnvelope (relationsThen (now (s .entry)) at envelope) ⌝ }
 {
-    let part = crate::envelope::read_relations(s, at, envelope);
+    let part = crate::sections::read_relations(s, at, envelope);
     let verdict = part.verdict;
     match verdict {
         Verdict::Refused { number, position } => refused_envelope(number, position),
@@ -99,7 +99,7 @@ fn from_relations(s: &[u8], at: usize, envelope: Envelope) -> EnvelopeRead
 fn from_sizes(s: &[u8], at: usize, envelope: Envelope) -> EnvelopeRead
     ensures { λ r. ⌜ r ≡ shownEnvelope (sizesThen (now (s .entry)) at envelope) ⌝ }
 {
-    let part = crate::envelope::read_sizes(s, at, envelope);
+    let part = crate::sections::read_sizes(s, at, envelope);
     let verdict = part.verdict;
     match verdict {
         Verdict::Refused { number, position } => refused_envelope(number, position),
@@ -117,7 +117,7 @@ pub fn read_envelope(s: &[u8]) -> EnvelopeRead
     match fields::numbers::read_head(s, b'C', b'P', b'N', 1) {
         NumberRead::Not { number, position } => refused_envelope(number, position),
         NumberRead::Is(version, p) => {
-            let mut start = crate::envelope::no_envelope();
+            let mut start = contents::envelope::no_envelope();
             start.version = version as u16;
             from_sizes(s, p, start)
         }

@@ -9,12 +9,12 @@ use lib.ListN.{length, getD, replicate}
 use Rattle.ground.specs.Lists.{Every, below, padded}
 use Rattle.ground.proofs.EveryLaws.{every-map, every-both, every-append, every-replicate, every-mapped, every-of, fixed-map}
 use Rattle.entries.specs.Relations.{noColumn, pastRelation, columnsOf}
-use Rattle.envelopes.specs.Parts.{sizesOf, relationsOf}
+use Rattle.contents.specs.Parts.{sizesOf, relationsOf}
 use Rattle.envelopes.specs.Rules.{ColumnWithin, RelationWithin, Within, tidyRelation, tidy}
 use Rattle.entries.specs.declared.places.Place.{Place}
 use Rattle.entries.specs.declared.relations.Column.{Column}
 use Rattle.entries.specs.declared.relations.Relation.{Relation}
-use Rattle.envelopes.specs.declared.envelope.Envelope.{Envelope}
+use Rattle.contents.specs.declared.envelope.Envelope.{Envelope}
 use Rattle.envelopes.proofs.TidyLaws.{tidy-relations}
 use Rattle.estimates.specs.Profile.{columnOf, given}
 use Rattle.estimates.specs.Ready.{Ready}

@@ -20,7 +20,7 @@ use Rattle.ground.proofs.CollectingLaws.{Collecting}
 use Rattle.entries.specs.Places.{place, samePlace}
 use Rattle.envelopes.specs.Rules.{Within}
 use Rattle.entries.specs.declared.places.Place.{Place}
-use Rattle.envelopes.specs.declared.envelope.Envelope.{Envelope}
+use Rattle.contents.specs.declared.envelope.Envelope.{Envelope}
 use Rattle.paths.specs.Labels.{labelsOf, byLabels}
 use Rattle.paths.specs.Steps.{step, legalBy, legal, LegalStep, legalSteps, PlaceBefore, StepBefore}
 use Rattle.papers.specs.Programs.{noStep}

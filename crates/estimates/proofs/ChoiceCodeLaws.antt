@@ -15,7 +15,7 @@ use Rattle.ground.proofs.EveryLaws.{every-at, every-of, every-getD, every-filte
 use Rattle.ground.proofs.UsedLaws.{used-inside}
 use Rattle.ground.proofs.ChoiceLaws.{greatest-first}
 use Rattle.ground.proofs.CollectingLaws.{Collecting, collecting-start, collecting-push, padded-take, padded-inside}
-use Rattle.envelopes.specs.declared.envelope.Envelope.{Envelope}
+use Rattle.contents.specs.declared.envelope.Envelope.{Envelope}
 use Rattle.paths.specs.Steps.{legal, legalSteps}
 use Rattle.papers.specs.Programs.{noStep}
 use Rattle.paths.specs.declared.steps.Step.{Step}

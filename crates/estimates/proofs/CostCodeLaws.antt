@@ -10,10 +10,10 @@ use lib.ListN.{length, getD}
 use Rattle.ground.specs.Tests.{pick}
 use Rattle.ground.specs.Lists.{below, sum}
 use Rattle.ground.proofs.NumbersLaws.{below-length, below-getD}
-use Rattle.envelopes.specs.Parts.{relationCount}
-use Rattle.envelopes.specs.Sites.{siteOf}
+use Rattle.contents.specs.Parts.{relationCount}
+use Rattle.contents.specs.Sites.{siteOf}
 use Rattle.entries.specs.declared.relations.Column.{Column}
-use Rattle.envelopes.specs.declared.envelope.Envelope.{Envelope}
+use Rattle.contents.specs.declared.envelope.Envelope.{Envelope}
 use Rattle.paths.specs.declared.steps.Step.{Step}
 use Rattle.estimates.specs.Profile.{columnOf, widthOf, rowsOf, countOf, rowsAfter, benefit}
 use Rattle.estimates.specs.Costs.{plainCosts, priced, stepCost, assemblyAt}

@@ -15,12 +15,12 @@ use Rattle.ground.proofs.ListLaws.{filter-from, filter-length}
 use Rattle.ground.proofs.EveryLaws.{every-of, every-mapped}
 use Rattle.ground.proofs.NumbersLaws.{below-length, below-from}
 use Rattle.entries.specs.Places.{place}
-use Rattle.envelopes.specs.Parts.{relationCount, columnsIn}
-use Rattle.envelopes.specs.Sites.{siteOf}
-use Rattle.envelopes.specs.Kept.{kept, keptColumns}
+use Rattle.contents.specs.Parts.{relationCount, columnsIn}
+use Rattle.contents.specs.Sites.{siteOf}
+use Rattle.contents.specs.Kept.{kept, keptColumns}
 use Rattle.envelopes.specs.Rules.{Within}
-use Rattle.envelopes.specs.declared.envelope.Envelope.{Envelope}
-use Rattle.envelopes.proofs.PartLaws.{columns-outside}
+use Rattle.contents.specs.declared.envelope.Envelope.{Envelope}
+use Rattle.contents.proofs.PartLaws.{columns-outside}
 use Rattle.paths.specs.Steps.{isPlace, legal, LegalStep}
 use Rattle.paths.specs.declared.steps.Step.{Step}
 use Rattle.paths.proofs.LabelLaws.{in-place, columns-few}

@@ -16,8 +16,8 @@ use Rattle.ground.proofs.CollectingLaws.{padded-take}
 use Rattle.ground.proofs.EveryLaws.{every-of, every-mapped, every-map, every-filter, every-getD}
 use Rattle.ground.proofs.ListLaws.{filter-length}
 use Rattle.ground.proofs.NumbersLaws.{below-length, below-from}
-use Rattle.envelopes.specs.Sites.{holds}
-use Rattle.envelopes.specs.declared.envelope.Envelope.{Envelope}
+use Rattle.contents.specs.Sites.{holds}
+use Rattle.contents.specs.declared.envelope.Envelope.{Envelope}
 use Rattle.paths.specs.Steps.{legal}
 use Rattle.papers.specs.Programs.{noStep, stepsOf, programWith, Acceptable}
 use Rattle.paths.specs.declared.steps.Step.{Step}
@@ -34,7 +34,7 @@ use Rattle.estimates.proofs.PlanLaws.{lines-costs}
 use Rattle.estimates.proofs.OrderCodeLaws.{others, lines-order, dearest-few}
 use Rattle.estimates.specs.declared.plans.Estimate.{Estimate}
 use Rattle.ground.proofs.ListLaws.{filter-alike}
-use Rattle.envelopes.specs.Sites.{isAt}
+use Rattle.contents.specs.Sites.{isAt}
 use Rattle.estimates.specs.Choice.{dearest, costs}
 use Rattle.estimates.specs.Plan.{line, linesOf, costsIn, dropsAt, estimated}
 use Rattle.ground.specs.Lists.{padded, filter}

@@ -13,7 +13,7 @@ use Rattle.ground.specs.declared.Verdict.the-variants.{Taken, Refused}
 use Rattle.ground.proofs.CollectingLaws.{Collecting, collecting-start, collecting-push}
 use Rattle.envelopes.specs.Rules.{Within, tidy}
 use Rattle.envelopes.specs.Envelope.{checkEnvelope, shownEnvelope}
-use Rattle.envelopes.specs.declared.envelope.Envelope.{Envelope}
+use Rattle.contents.specs.declared.envelope.Envelope.{Envelope}
 use Rattle.envelopes.specs.declared.reading.EnvelopeRead.{EnvelopeRead}
 use Rattle.envelopes.proofs.ReadingLaws.{read-refused, read-taken}
 use Rattle.envelopes.proofs.ExactEnvelope.{check-sound}

@@ -12,15 +12,15 @@ use Rattle.ground.specs.Outcome.{verdictOf}
 use Rattle.entries.specs.Relations.{relationWith}
 use Rattle.entries.specs.Places.{place, samePlace}
 use Rattle.entries.specs.Clauses.{clause, domainOf}
-use Rattle.envelopes.specs.Parts.{sizesOf, relationsOf, clausesOf, targetsOf, columnsIn, noEnvelope, withVersion, withSizes, withRelations, withClauses, withTargets}
-use Rattle.envelopes.specs.Sites.{siteOf, isAt, holds}
-use Rattle.envelopes.specs.Kept.{names, kept, keptColumns}
+use Rattle.contents.specs.Parts.{sizesOf, relationsOf, clausesOf, targetsOf, columnsIn, noEnvelope, withVersion, withSizes, withRelations, withClauses, withTargets}
+use Rattle.contents.specs.Sites.{siteOf, isAt, holds}
+use Rattle.contents.specs.Kept.{names, kept, keptColumns}
 use Rattle.entries.specs.declared.places.Place.{Place}
 use Rattle.entries.specs.declared.relations.Column.{Column}
 use Rattle.entries.specs.declared.relations.Relation.{Relation}
 use Rattle.entries.specs.declared.clauses.Clause.{Clause}
 use Rattle.entries.specs.declared.clauses.ClauseKind.the-variants.{Selection, Join}
-use Rattle.envelopes.specs.declared.envelope.Envelope.{Envelope}
+use Rattle.contents.specs.declared.envelope.Envelope.{Envelope}
 use Rattle.paths.specs.Paths.{edges, onPath}
 use Rattle.paths.specs.Steps.{step, places, isPlace, legalBy, legalSteps}
 use Rattle.paths.specs.Implied.{constantsOf, selectionsBy}

@@ -17,10 +17,10 @@ use Rattle.ground.proofs.CountLaws.{left-suc, left-none}
 use Rattle.ground.proofs.EveryLaws.{every-mapped, every-of}
 use Rattle.ground.proofs.CollectingLaws.{padded-length, padded-take}
 use Rattle.entries.specs.Places.{place}
-use Rattle.envelopes.specs.Parts.{relationCount}
+use Rattle.contents.specs.Parts.{relationCount}
 use Rattle.envelopes.specs.Rules.{Within, tidy}
 use Rattle.entries.specs.declared.places.Place.{Place}
-use Rattle.envelopes.specs.declared.envelope.Envelope.{Envelope}
+use Rattle.contents.specs.declared.envelope.Envelope.{Envelope}
 use Rattle.paths.specs.Labels.{labelsOf, byLabels}
 use Rattle.paths.specs.Implied.{selected, selectionsBy, impliedSelections, shownSelections}
 use Rattle.paths.specs.declared.labels.Labels.{Labels}

@@ -20,10 +20,10 @@ use Rattle.ground.proofs.NumbersLaws.{below-mem, below-from}
 use Rattle.ground.proofs.CollectingLaws.{padded-length, padded-take}
 use Rattle.entries.specs.Places.{samePlace}
 use Rattle.entries.specs.Relations.{pastRelation}
-use Rattle.envelopes.specs.Parts.{sizesOf, relationsOf, relationCount}
-use Rattle.envelopes.specs.Sites.{siteOf, isAt, holds}
+use Rattle.contents.specs.Parts.{sizesOf, relationsOf, relationCount}
+use Rattle.contents.specs.Sites.{siteOf, isAt, holds}
 use Rattle.envelopes.specs.Rules.{RelationWithin, Within}
-use Rattle.envelopes.specs.declared.envelope.Envelope.{Envelope}
+use Rattle.contents.specs.declared.envelope.Envelope.{Envelope}
 use Rattle.paths.specs.Steps.{legal, legalSteps, StepBefore}
 use Rattle.papers.specs.Programs.{noStep}
 use Rattle.paths.specs.declared.steps.Step.{Step}

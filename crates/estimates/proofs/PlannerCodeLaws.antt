@@ -13,10 +13,10 @@ use Rattle.ground.specs.declared.Verdict.the-variants.{Taken, Refused}
 use Rattle.ground.proofs.ListLaws.{filter-from}
 use Rattle.ground.proofs.EveryLaws.{every-index}
 use Rattle.ground.proofs.CollectingLaws.{padded-nil}
-use Rattle.envelopes.specs.Sites.{holds}
+use Rattle.contents.specs.Sites.{holds}
 use Rattle.envelopes.specs.Rules.{Within, tidy}
 use Rattle.envelopes.specs.Envelope.{readEnvelope, checkEnvelope, shownEnvelope}
-use Rattle.envelopes.specs.declared.envelope.Envelope.{Envelope}
+use Rattle.contents.specs.declared.envelope.Envelope.{Envelope}
 use Rattle.envelopes.specs.declared.reading.EnvelopeRead.{EnvelopeRead}
 use Rattle.envelopes.proofs.ReadingLaws.{read-refused, read-taken}
 use Rattle.envelopes.proofs.ExactEnvelope.{envelope-exact, check-sound}

@@ -15,14 +15,14 @@ use Rattle.ground.proofs.CollectingLaws.{padded-inside}
 use Rattle.ground.proofs.UsedLaws.{used-inside, used-outside}
 use Rattle.entries.specs.Relations.{noColumn, pastRelation}
 use Rattle.entries.specs.Places.{place}
-use Rattle.envelopes.specs.Parts.{relationsOf, sizesOf, columnsIn}
-use Rattle.envelopes.specs.Kept.{kept, keptColumns, shownColumns}
+use Rattle.contents.specs.Parts.{relationsOf, sizesOf, columnsIn}
+use Rattle.contents.specs.Kept.{kept, keptColumns, shownColumns}
 use Rattle.entries.specs.declared.places.Place.{Place}
 use Rattle.entries.specs.declared.relations.Column.{Column}
 use Rattle.entries.specs.declared.relations.Relation.{Relation}
-use Rattle.envelopes.specs.declared.envelope.Envelope.{Envelope}
-use Rattle.envelopes.specs.declared.kept.Columns.{Columns}
-use Rattle.envelopes.proofs.PartLaws.{relation-inside, relation-outside}
+use Rattle.contents.specs.declared.envelope.Envelope.{Envelope}
+use Rattle.contents.specs.declared.kept.Columns.{Columns}
+use Rattle.contents.proofs.PartLaws.{relation-inside, relation-outside}
 use Rattle.estimates.specs.Short.{Y}
 use Rattle.estimates.specs.Profile.{columnOf, domainSize, widthOf, rowsOf, countOf, given, shrunk}
 use Rattle.estimates.specs.declared.profiles.Profile.{Profile}

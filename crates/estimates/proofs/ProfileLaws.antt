@@ -18,7 +18,7 @@ use Rattle.ground.proofs.NumbersLaws.{below-length, below-getD}
 use Rattle.ground.proofs.UsedLaws.{used-inside}
 use Rattle.entries.specs.Relations.{noColumn, pastRelation, columnsOf}
 use Rattle.entries.specs.Clauses.{domainOf}
-use Rattle.envelopes.specs.Parts.{sizesOf, relationsOf, clausesOf, relationCount}
+use Rattle.contents.specs.Parts.{sizesOf, relationsOf, clausesOf, relationCount}
 use Rattle.envelopes.specs.Rules.{ColumnWithin, RelationWithin, PlaceWithin, KindWithin, ClauseWithin, Within}
 use Rattle.envelopes.specs.Fits.{ColumnFits, RelationFits, Fits}
 use Rattle.entries.specs.declared.places.Place.{Place}
@@ -27,8 +27,8 @@ use Rattle.entries.specs.declared.relations.Relation.{Relation}
 use Rattle.entries.specs.declared.clauses.Clause.{Clause}
 use Rattle.entries.specs.declared.clauses.ClauseKind.{ClauseKind}
 use Rattle.entries.specs.declared.clauses.ClauseKind.the-variants.{Selection, Join}
-use Rattle.envelopes.specs.declared.envelope.Envelope.{Envelope}
-use Rattle.envelopes.proofs.PartLaws.{relation-inside}
+use Rattle.contents.specs.declared.envelope.Envelope.{Envelope}
+use Rattle.contents.proofs.PartLaws.{relation-inside}
 use Rattle.paths.specs.Paths.{Node, column, constant, Edge, edgeOf, edges}
 use Rattle.paths.specs.Steps.{isPlace, legal, LegalStep}
 use Rattle.paths.specs.Implied.{impliedSelections}

@@ -13,8 +13,8 @@ use Rattle.ground.specs.Tests.{pick}
 use Rattle.ground.specs.Lists.{Every, filter, below, numbersFrom}
 use Rattle.ground.proofs.CountLaws.{split}
 use Rattle.ground.proofs.NumbersLaws.{filter-below}
-use Rattle.envelopes.specs.Sites.{holds}
-use Rattle.envelopes.specs.declared.envelope.Envelope.{Envelope}
+use Rattle.contents.specs.Sites.{holds}
+use Rattle.contents.specs.declared.envelope.Envelope.{Envelope}
 use Rattle.paths.specs.Steps.{legal}
 use Rattle.paths.specs.declared.steps.Step.{Step}
 use Rattle.estimates.specs.Profile.{localProfile}

@@ -7,7 +7,7 @@ use borrow.Author.Tests.{eq-eqb, ne-eqb}
 use lib.ListN.{getD}
 use Rattle.ground.proofs.CountLaws.{split}
 use Rattle.entries.specs.declared.places.Place.{Place}
-use Rattle.envelopes.specs.declared.envelope.Envelope.{Envelope}
+use Rattle.contents.specs.declared.envelope.Envelope.{Envelope}
 use Rattle.paths.specs.declared.steps.Step.{Step}
 use Rattle.estimates.specs.Division.{over}
 use Rattle.estimates.specs.Profile.{domainSize, rowsOf, countOf, shrunk, afterSelection, rowsAfter, countAfter, afterStep}

@@ -12,7 +12,7 @@ use lib.Seq.{drop-cons}
 use Rattle.ground.specs.Lists.{Every, sum}
 use Rattle.ground.proofs.EveryLaws.{every-getD}
 use Rattle.ground.proofs.UsedLaws.{used-inside}
-use Rattle.envelopes.specs.declared.envelope.Envelope.{Envelope}
+use Rattle.contents.specs.declared.envelope.Envelope.{Envelope}
 use Rattle.paths.specs.Steps.{legal}
 use Rattle.papers.specs.Programs.{noStep, stepsOf, Acceptable}
 use Rattle.paths.specs.declared.steps.Step.{Step}

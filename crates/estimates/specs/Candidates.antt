@@ -5,7 +5,7 @@ use mathlib.Core.Option.{Option, none, some}
 use Prim.Native.Nat.{ℕ, _≤_}
 use lib.ListN.{length, getD}
 use Rattle.ground.specs.Lists.{padded}
-use Rattle.envelopes.specs.declared.envelope.Envelope.{Envelope}
+use Rattle.contents.specs.declared.envelope.Envelope.{Envelope}
 use Rattle.papers.specs.Programs.{noStep}
 use Rattle.paths.specs.declared.steps.Step.{Step}
 use Rattle.estimates.specs.Profile.{widthOf, rowsOf, rowsAfter}

@@ -6,9 +6,9 @@ use lib.ListN.{getD}
 use lib.Dec.{eqb}
 use Rattle.ground.specs.Tests.{pick}
 use Rattle.ground.specs.Lists.{below, sum}
-use Rattle.envelopes.specs.Parts.{relationCount}
-use Rattle.envelopes.specs.Sites.{siteOf}
-use Rattle.envelopes.specs.declared.envelope.Envelope.{Envelope}
+use Rattle.contents.specs.Parts.{relationCount}
+use Rattle.contents.specs.Sites.{siteOf}
+use Rattle.contents.specs.declared.envelope.Envelope.{Envelope}
 use Rattle.paths.specs.declared.steps.Step.{Step}
 use Rattle.estimates.specs.Profile.{columnOf, widthOf, rowsOf, countOf}
 use Rattle.estimates.specs.declared.profiles.Profile.{Profile}

@@ -9,9 +9,9 @@ use Rattle.ground.specs.Lists.{filter, below, padded, sum}
 use Rattle.ground.specs.Outcome.{Outcome, next, verdictOf, valueOf}
 use Rattle.ground.specs.Outcome.Outcome.{good, bad}
 use Rattle.entries.specs.Places.{samePlace}
-use Rattle.envelopes.specs.Sites.{isAt, holds}
+use Rattle.contents.specs.Sites.{isAt, holds}
 use Rattle.envelopes.specs.Envelope.{checkEnvelope}
-use Rattle.envelopes.specs.declared.envelope.Envelope.{Envelope}
+use Rattle.contents.specs.declared.envelope.Envelope.{Envelope}
 use Rattle.paths.specs.Steps.{legalSteps}
 use Rattle.papers.specs.Programs.{noStep, stepsOf, checkProgram}
 use Rattle.paths.specs.declared.steps.Step.{Step}

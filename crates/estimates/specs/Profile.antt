@@ -9,11 +9,11 @@ use lib.Dec.{eqb}
 use Rattle.ground.specs.Tests.{pick}
 use Rattle.ground.specs.Lists.{below, sum}
 use Rattle.entries.specs.Relations.{noColumn, pastRelation}
-use Rattle.envelopes.specs.Parts.{relationsOf, sizesOf, relationCount}
-use Rattle.envelopes.specs.Kept.{keptColumns}
+use Rattle.contents.specs.Parts.{relationsOf, sizesOf, relationCount}
+use Rattle.contents.specs.Kept.{keptColumns}
 use Rattle.entries.specs.declared.places.Place.{Place}
 use Rattle.entries.specs.declared.relations.Column.{Column}
-use Rattle.envelopes.specs.declared.envelope.Envelope.{Envelope}
+use Rattle.contents.specs.declared.envelope.Envelope.{Envelope}
 use Rattle.paths.specs.Implied.{impliedSelections}
 use Rattle.paths.specs.declared.steps.Step.{Step}
 use Rattle.paths.specs.declared.implied.Selected.{Selected}

@@ -1,7 +1,7 @@
 // The steps that the planner chooses from: the legal steps of an envelope, by left relation, left column, right relation,
 // right column, of which one after the other is taken out.
+use contents::envelope::Envelope;
 use entries::places::Place;
-use envelopes::envelope::Envelope;
 use paths::steps::Step;
 ghost use mathlib.Core.Path.{_≡_};
 ghost use mathlib.Core.Bool.{not};

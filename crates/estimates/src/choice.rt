@@ -2,7 +2,7 @@
 use crate::candidates::Steps;
 use crate::costs::Costs;
 use crate::profiles::Profile;
-use envelopes::envelope::Envelope;
+use contents::envelope::Envelope;
 use paths::steps::Step;
 ghost use mathlib.Core.Path.{_≡_};
 ghost use Prim.Native.Nat.{ℕ, _≤_, _<_};

@@ -1,13 +1,13 @@
 // What a transfer costs: its size times the price from the sender's site to the receiver's.
 use crate::profiles::Profile;
-use envelopes::envelope::Envelope;
+use contents::envelope::Envelope;
 use paths::steps::Step;
 ghost use mathlib.Core.Path.{_≡_};
 ghost use Prim.Native.Nat.{ℕ, _+_, _*_, _/_, _%_, _≤_};
 ghost use lib.Dec.{eqb};
 ghost use lib.ListN.{getD};
 ghost use Rattle.ground.specs.Tests.{pick};
-ghost use Rattle.envelopes.specs.Sites.{siteOf};
+ghost use Rattle.contents.specs.Sites.{siteOf};
 ghost use Rattle.estimates.specs.Profile.{widthOf, rowsOf, rowsAfter, benefit};
 ghost use Rattle.estimates.specs.Costs.{plainCosts, priced, stepCost, assemblyAt};
 
@@ -65,8 +65,8 @@ pub(crate) fn step_cost(costs: Costs, envelope: Envelope, profile: Profile, step
     let column = crate::profiles::column_of(envelope, right);
     let width = column.width as u64;
     let count = crate::profiles::count_at(profile, right);
-    let sender = envelopes::sites::site_of(envelope, right.relation);
-    let receiver = envelopes::sites::site_of(envelope, left.relation);
+    let sender = contents::sites::site_of(envelope, right.relation);
+    let receiver = contents::sites::site_of(envelope, left.relation);
     priced(costs, sender, receiver, count * width)
 }
 
@@ -77,7 +77,7 @@ fn sent(costs: Costs, envelope: Envelope, profile: Profile, site: u8, relation: 
 {
     let rows = crate::profiles::rows_at(profile, relation);
     let width = crate::profiles::width_of(envelope, relation);
-    let sender = envelopes::sites::site_of(envelope, relation);
+    let sender = contents::sites::site_of(envelope, relation);
     priced(costs, sender, site, rows * width)
 }
 

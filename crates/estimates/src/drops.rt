@@ -2,7 +2,7 @@
 // total is strictly lower.
 use crate::costs::Costs;
 use crate::profiles::Profile;
-use envelopes::envelope::Envelope;
+use contents::envelope::Envelope;
 use papers::programs::Program;
 ghost use mathlib.Core.Path.{_≡_};
 ghost use Prim.Native.Nat.{_≤_};

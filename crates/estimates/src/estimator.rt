@@ -3,7 +3,7 @@ use crate::costs::Costs;
 use crate::plans::Estimate;
 use crate::plans::Line;
 use crate::profiles::Profile;
-use envelopes::envelope::Envelope;
+use contents::envelope::Envelope;
 use ground::Verdict;
 use papers::programs::Program;
 use paths::steps::Step;

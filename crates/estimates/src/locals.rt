@@ -1,7 +1,7 @@
 // The profile behind local operations: every implied selection, in order of relation, column, value.
 use crate::profiles::Profile;
+use contents::envelope::Envelope;
 use entries::places::Place;
-use envelopes::envelope::Envelope;
 use paths::labels::Labels;
 ghost use mathlib.Core.Path.{_≡_};
 ghost use Prim.Native.Nat.{ℕ, _≤_};

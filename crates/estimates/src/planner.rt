@@ -2,7 +2,7 @@
 use crate::costs::Costs;
 use crate::plans::Plan;
 use crate::profiles::Profile;
-use envelopes::envelope::Envelope;
+use contents::envelope::Envelope;
 use ground::Verdict;
 use papers::programs::Program;
 ghost use mathlib.Core.Path.{_≡_};

@@ -1,16 +1,16 @@
 // A profile: the estimated rows of each relation and the distinct count of each column. And what the envelope says of a
 // column; whatever struct comes in has an answer.
+use contents::envelope::Envelope;
 use entries::places::Place;
 use entries::relations::Column;
 use entries::relations::Relation;
-use envelopes::envelope::Envelope;
 use paths::steps::Step;
 ghost use mathlib.Core.Path.{_≡_};
 ghost use Prim.Native.Nat.{ℕ, _/_, _%_, _≤_, _<_};
 ghost use lib.ListN.{getD, set};
 ghost use Rattle.entries.specs.Relations.{noColumn, pastRelation};
 ghost use Rattle.entries.specs.Places.{place};
-ghost use Rattle.envelopes.specs.Parts.{relationsOf};
+ghost use Rattle.contents.specs.Parts.{relationsOf};
 ghost use Rattle.estimates.specs.Profile.{columnOf, domainSize, widthOf, rowsOf, countOf, given, shrunk, afterSelection, rowsAfter, countAfter, afterStep};
 
 // Relation r has rows[r]; its column c has counts[8 * r + c].
@@ -67,7 +67,7 @@ pub(crate) fn domain_size(envelope: Envelope, place: Place) -> u32
 pub(crate) fn width_of(envelope: Envelope, relation: u8) -> u64
     ensures { λ r. ⌜ r ≡ widthOf envelope relation ⌝ }
 {
-    let kept = envelopes::kept::kept_columns(envelope, relation);
+    let kept = contents::kept::kept_columns(envelope, relation);
     let numbers = kept.numbers;
     let end = kept.count as usize;
     let mut total: u64 = 0;

@@ -1,11 +1,11 @@
 // The cheapest site: of those that hold a relation the one at which assembly costs least, the lowest on a tie.
 use crate::costs::Costs;
 use crate::profiles::Profile;
-use envelopes::envelope::Envelope;
+use contents::envelope::Envelope;
 ghost use mathlib.Core.Path.{_≡_};
 ghost use Prim.Native.Nat.{ℕ, _≤_, _<_};
 ghost use Rattle.ground.specs.Tests.{pick};
-ghost use Rattle.envelopes.specs.Sites.{holds};
+ghost use Rattle.contents.specs.Sites.{holds};
 ghost use Rattle.estimates.specs.Costs.{assemblyAt};
 ghost use Rattle.estimates.specs.Plan.{siteFor};
 ghost use Rattle.estimates.specs.Candidates.{Bounded};
@@ -18,7 +18,7 @@ fn held_assembly(costs: Costs, envelope: Envelope, profile: Profile, site: u8) -
     requires { ⌜ Bounded costs envelope profile ⌝ }
     ensures { λ r. ⌜ r ≡ pick (holds envelope site) (assemblyAt costs envelope profile site) 16320000001 ⌝ }
 {
-    if envelopes::sites::holds_relation(envelope, site) {
+    if contents::sites::holds_relation(envelope, site) {
         crate::costs::assembly_at(costs, envelope, profile, site)
     } else {
         TOP

@@ -1,7 +1,7 @@
 // What a program costs in all: its steps one after the other, then assembly at its site.
 use crate::costs::Costs;
 use crate::profiles::Profile;
-use envelopes::envelope::Envelope;
+use contents::envelope::Envelope;
 use papers::programs::Program;
 ghost use mathlib.Core.Path.{_≡_};
 ghost use Rattle.ground.specs.Lists.{sum};

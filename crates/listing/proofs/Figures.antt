@@ -6,9 +6,9 @@ use Rattle.ground.specs.Rising.{insert, rising}
 use Rattle.ground.specs.Outcome.{verdictOf}
 use Rattle.entries.specs.Places.{samePlace}
 use Rattle.entries.specs.Clauses.{domainOf}
-use Rattle.envelopes.specs.Parts.{sizesOf, relationsOf, clausesOf, targetsOf, columnsIn, withVersion, withSizes, withRelations, withClauses, withTargets}
-use Rattle.envelopes.specs.Sites.{siteOf, isAt, holds}
-use Rattle.envelopes.specs.Kept.{names, kept, keptColumns}
+use Rattle.contents.specs.Parts.{sizesOf, relationsOf, clausesOf, targetsOf, columnsIn, withVersion, withSizes, withRelations, withClauses, withTargets}
+use Rattle.contents.specs.Sites.{siteOf, isAt, holds}
+use Rattle.contents.specs.Kept.{names, kept, keptColumns}
 use Rattle.paths.specs.Paths.{edges, onPath}
 use Rattle.paths.specs.Steps.{places, isPlace, legalBy, legalSteps}
 use Rattle.paths.specs.Implied.{constantsOf, selectionsBy}
@@ -26,7 +26,7 @@ use Rattle.fields.specs.Numbers.{numberAt, numberThat, marked, markOf, versionA
 use Rattle.entries.specs.Relations.{columnsOf, columnAt, columnBytes, columnsThen, relationAt, relationBytes}
 use Rattle.entries.specs.Places.{placeAt, placeBytes}
 use Rattle.entries.specs.Clauses.{selectionAt, joined, joinAt, clauseAt, kindBytes}
-use Rattle.envelopes.specs.Kept.{firstBare}
+use Rattle.contents.specs.Kept.{firstBare}
 use Rattle.envelopes.specs.Envelope.{filled, listInto, ended, targetsThen, clausesThen, relationsThen, sizesThen, envelopeFrom, envelopeBytes}
 use Rattle.envelopes.specs.Envelope.{readEnvelope}
 use Rattle.listing.specs.Text.{text, decimalIn, decimal}

@@ -17,7 +17,7 @@ use Rattle.fields.proofs.PutLaws.{written-back}
 use Rattle.entries.specs.Places.{placeBytes}
 use Rattle.envelopes.specs.Rules.{Within}
 use Rattle.envelopes.specs.Fits.{Fits}
-use Rattle.envelopes.specs.declared.envelope.Envelope.{Envelope}
+use Rattle.contents.specs.declared.envelope.Envelope.{Envelope}
 use Rattle.envelopes.proofs.ExactStructs.{place-tells}
 use Rattle.paths.specs.Steps.{step, legal, stepBytes}
 use Rattle.papers.specs.Programs.{stepsOf, programWith, SJP, readProgram, programBytes, checkProgram, programWritten, programWrittenIn, Acceptable, tidyProgram}

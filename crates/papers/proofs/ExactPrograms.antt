@@ -23,14 +23,14 @@ use Rattle.fields.specs.Exact.{Reads, Exact}
 use Rattle.fields.proofs.ExactReading.{done, tested, restated, last, whole-paper, chained, numbered-exact}
 use Rattle.fields.proofs.ExactNumbers.{in-exact, that-exact, head-exact}
 use Rattle.entries.specs.Relations.{pastRelation}
-use Rattle.envelopes.specs.Parts.{sizesOf, relationsOf, relationCount, columnsIn}
-use Rattle.envelopes.specs.Sites.{siteOf, isAt, holds}
+use Rattle.contents.specs.Parts.{sizesOf, relationsOf, relationCount, columnsIn}
+use Rattle.contents.specs.Sites.{siteOf, isAt, holds}
 use Rattle.envelopes.specs.Envelope.{checkEnvelope}
 use Rattle.envelopes.specs.Rules.{RelationWithin, Within, tidy}
 use Rattle.envelopes.specs.Fits.{Fits}
 use Rattle.entries.specs.declared.places.Place.{Place}
-use Rattle.envelopes.specs.declared.envelope.Envelope.{Envelope}
-use Rattle.envelopes.proofs.PartLaws.{relation-inside}
+use Rattle.contents.specs.declared.envelope.Envelope.{Envelope}
+use Rattle.contents.proofs.PartLaws.{relation-inside}
 use Rattle.envelopes.proofs.WrittenBytes.{place-bytes}
 use Rattle.envelopes.proofs.ExactPlaces.{Named, place-exact}
 use Rattle.envelopes.proofs.TidyLaws.{tidy-within}

@@ -9,14 +9,14 @@ use Rattle.ground.specs.Outcome.Outcome.{good, bad}
 use Rattle.entries.specs.Relations.{relationWith}
 use Rattle.entries.specs.Places.{place}
 use Rattle.entries.specs.Clauses.{clause}
-use Rattle.envelopes.specs.Parts.{noEnvelope, withVersion, withSizes, withRelations, withClauses, withTargets}
+use Rattle.contents.specs.Parts.{noEnvelope, withVersion, withSizes, withRelations, withClauses, withTargets}
 use Rattle.envelopes.specs.Envelope.{readEnvelope, envelopeBytes, checkEnvelope}
 use Rattle.entries.specs.declared.places.Place.{Place}
 use Rattle.entries.specs.declared.relations.Column.{Column}
 use Rattle.entries.specs.declared.relations.Relation.{Relation}
 use Rattle.entries.specs.declared.clauses.Clause.{Clause}
 use Rattle.entries.specs.declared.clauses.ClauseKind.the-variants.{Selection, Join}
-use Rattle.envelopes.specs.declared.envelope.Envelope.{Envelope}
+use Rattle.contents.specs.declared.envelope.Envelope.{Envelope}
 use Rattle.paths.specs.Steps.{step}
 use Rattle.papers.specs.Programs.{programWith, readProgram, checkProgram}
 

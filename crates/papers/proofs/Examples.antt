@@ -14,14 +14,14 @@ use Rattle.fields.specs.Numbers.{numberAt, numberThat, marked, markOf, versionA
 use Rattle.entries.specs.Relations.{relationWith, columnsOf, columnAt, columnBytes, columnsThen, relationAt, relationBytes}
 use Rattle.entries.specs.Places.{place, samePlace, placeAt, placeBytes}
 use Rattle.entries.specs.Clauses.{domainOf, selectionAt, joined, joinAt, clauseAt, kindBytes}
-use Rattle.envelopes.specs.Parts.{columnsIn, sizesOf, relationsOf, clausesOf, targetsOf, withVersion, withSizes, withRelations, withClauses, withTargets}
-use Rattle.envelopes.specs.Sites.{siteOf, isAt, holds}
-use Rattle.envelopes.specs.Kept.{names, kept, keptColumns, firstBare}
+use Rattle.contents.specs.Parts.{columnsIn, sizesOf, relationsOf, clausesOf, targetsOf, withVersion, withSizes, withRelations, withClauses, withTargets}
+use Rattle.contents.specs.Sites.{siteOf, isAt, holds}
+use Rattle.contents.specs.Kept.{names, kept, keptColumns, firstBare}
 use Rattle.envelopes.specs.Envelope.{filled, listInto, ended, targetsThen, clausesThen, relationsThen, sizesThen, envelopeFrom, readEnvelope, envelopeBytes, checkEnvelope}
 use Rattle.envelopes.specs.Rules.{tidyRelation, tidy}
 use Rattle.entries.specs.declared.places.Place.{Place}
 use Rattle.entries.specs.declared.clauses.Clause.{Clause}
-use Rattle.envelopes.specs.declared.envelope.Envelope.{Envelope}
+use Rattle.contents.specs.declared.envelope.Envelope.{Envelope}
 use Rattle.paths.specs.Paths.{edges, onPath}
 use Rattle.paths.specs.Steps.{step, places, isPlace, legalBy, legalSteps, stepBytes}
 use Rattle.paths.specs.Implied.{constantsOf, selectionsBy, equalitiesBy, impliedSelections, impliedEqualities}

@@ -21,12 +21,12 @@ use Rattle.fields.specs.declared.puts.Written.the-variants as w
 use Rattle.fields.proofs.NumberLaws.{number-good, number-bad, at-good, one-byte}
 use Rattle.fields.proofs.PutLaws.{written-refused, written-front}
 use Rattle.entries.specs.Places.{placeAt, shownPlace}
-use Rattle.envelopes.specs.Sites.{holds}
+use Rattle.contents.specs.Sites.{holds}
 use Rattle.entries.specs.declared.places.Place.{Place}
 use Rattle.entries.specs.declared.places.PlaceRead.{PlaceRead}
 use Rattle.entries.specs.declared.places.PlaceRead.the-variants as p
 use Rattle.envelopes.specs.Envelope.{checkEnvelope, shownEnvelope}
-use Rattle.envelopes.specs.declared.envelope.Envelope.{Envelope}
+use Rattle.contents.specs.declared.envelope.Envelope.{Envelope}
 use Rattle.envelopes.specs.declared.reading.EnvelopeRead.{EnvelopeRead}
 use Rattle.entries.proofs.PlaceLaws.{place-good, place-bad}
 use Rattle.envelopes.proofs.ReadingLaws.{read-taken, read-refused}

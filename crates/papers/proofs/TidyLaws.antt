@@ -11,7 +11,7 @@ use Rattle.ground.specs.Outcome.Outcome.{good}
 use Rattle.ground.proofs.ListLaws.{filter-alike, map-alike, each-alike}
 use Rattle.ground.proofs.EveryLaws.{every-map, every-at}
 use Rattle.entries.specs.Places.{place}
-use Rattle.envelopes.specs.Parts.{relationsOf, clausesOf, relationCount, columnsIn}
+use Rattle.contents.specs.Parts.{relationsOf, clausesOf, relationCount, columnsIn}
 use Rattle.envelopes.specs.Envelope.{checkEnvelope}
 use Rattle.envelopes.specs.Fits.{Fits}
 use Rattle.envelopes.specs.Rules.{KindWithin, ClauseWithin, Within, tidy}
@@ -19,7 +19,7 @@ use Rattle.entries.specs.declared.places.Place.{Place}
 use Rattle.entries.specs.declared.clauses.Clause.{Clause}
 use Rattle.entries.specs.declared.clauses.ClauseKind.{ClauseKind}
 use Rattle.entries.specs.declared.clauses.ClauseKind.the-variants.{Selection, Join}
-use Rattle.envelopes.specs.declared.envelope.Envelope.{Envelope}
+use Rattle.contents.specs.declared.envelope.Envelope.{Envelope}
 use Rattle.envelopes.proofs.TidyLaws.{tidy-clauses, tidy-targets, tidy-columns-in, tidy-relation-count, tidy-holds, tidy-domain-of}
 use Rattle.envelopes.proofs.ExactChecks.{check-exact}
 use Rattle.paths.specs.Paths.{Node, column, constant, Edge, edgeOf, edges, linked, onPath}

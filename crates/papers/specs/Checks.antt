@@ -3,9 +3,9 @@
 use Prim.Native.Nat.{ℕ}
 use Rattle.ground.specs.Outcome.{Outcome, next, verdictOf, valueOf}
 use Rattle.ground.specs.Outcome.Outcome.{good}
-use Rattle.envelopes.specs.Parts.{noEnvelope}
+use Rattle.contents.specs.Parts.{noEnvelope}
 use Rattle.envelopes.specs.Envelope.{checkEnvelope}
-use Rattle.envelopes.specs.declared.envelope.Envelope.{Envelope}
+use Rattle.contents.specs.declared.envelope.Envelope.{Envelope}
 use Rattle.papers.specs.Programs.{noProgram, programAgainst, programBytes}
 use Rattle.papers.specs.declared.programs.Program.{Program}
 use Rattle.papers.specs.declared.checks.Papers.{Papers}

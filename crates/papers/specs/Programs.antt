@@ -18,9 +18,9 @@ use Rattle.fields.specs.Numbers.{numberIn, numberThat, headOf}
 use Rattle.fields.specs.Puts.{writtenOf, writtenIn}
 use Rattle.fields.specs.declared.puts.Written.{Written}
 use Rattle.entries.specs.Places.{noPlace, placeAt}
-use Rattle.envelopes.specs.Sites.{holds}
+use Rattle.contents.specs.Sites.{holds}
 use Rattle.envelopes.specs.Envelope.{checkEnvelope}
-use Rattle.envelopes.specs.declared.envelope.Envelope.{Envelope}
+use Rattle.contents.specs.declared.envelope.Envelope.{Envelope}
 use Rattle.paths.specs.Steps.{step, legal, stepBytes}
 use Rattle.paths.specs.declared.steps.Step.{Step}
 use Rattle.papers.specs.declared.programs.Program.{Program}

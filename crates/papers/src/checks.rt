@@ -1,6 +1,6 @@
 // Both papers checked: an envelope, then a program, as their bytes would be.
 use crate::programs::Program;
-use envelopes::envelope::Envelope;
+use contents::envelope::Envelope;
 use ground::Verdict;
 ghost use mathlib.Core.Path.{_≡_};
 ghost use Rattle.ground.specs.Outcome.Outcome.{bad};
@@ -21,7 +21,7 @@ pub struct PapersRead {
 fn refused_papers(number: u8, position: usize) -> PapersRead
     ensures { λ r. ⌜ r ≡ shownPapers (bad number position) ⌝ }
 {
-    let envelope = envelopes::envelope::no_envelope();
+    let envelope = contents::envelope::no_envelope();
     let program = crate::programs::no_program();
     PapersRead {
         verdict: Verdict::Refused { number, position },

@@ -1,6 +1,6 @@
 // Step programs: read against an envelope, checked, written. Steps are tested by the labels of the envelope.
+use contents::envelope::Envelope;
 use entries::places::PlaceRead;
-use envelopes::envelope::Envelope;
 use fields::numbers::NumberRead;
 use fields::numbers::Width;
 use fields::puts::Written;
@@ -164,7 +164,7 @@ pub fn read_program_by(s: &[u8], envelope: Envelope, labels: Labels) -> ProgramR
             NumberRead::Not { number, position } => refused_program(number, position),
             NumberRead::Is(_, q) => {
                 let site = s[p];
-                if envelopes::sites::holds_relation(envelope, site) {
+                if contents::sites::holds_relation(envelope, site) {
                     from_count(s, q, site, envelope, labels)
                 } else {
                     refused_program(refusals::BEYOND_LIMIT, p)

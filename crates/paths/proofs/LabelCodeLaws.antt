@@ -15,13 +15,13 @@ use Rattle.ground.proofs.SearchingLaws.{Looking, first-more, first-found, first
 use Rattle.ground.proofs.MappingLaws.{Mapping, mapping-set, mapping-stays, mapping-all}
 use Rattle.ground.proofs.ListLaws.{getD-map}
 use Rattle.entries.specs.Clauses.{noClause, domainOf}
-use Rattle.envelopes.specs.Parts.{clausesOf}
+use Rattle.contents.specs.Parts.{clausesOf}
 use Rattle.entries.specs.declared.places.Place.{Place}
 use Rattle.entries.specs.declared.relations.Relation.{Relation}
 use Rattle.entries.specs.declared.clauses.Clause.{Clause}
 use Rattle.entries.specs.declared.clauses.ClauseKind.{ClauseKind}
 use Rattle.entries.specs.declared.clauses.ClauseKind.the-variants.{Selection, Join}
-use Rattle.envelopes.specs.declared.envelope.Envelope.{Envelope}
+use Rattle.contents.specs.declared.envelope.Envelope.{Envelope}
 use Rattle.paths.specs.Paths.{column, constant, Edge, edgeOf, edges}
 use Rattle.paths.specs.declared.labels.Labels.{Labels}
 use Rattle.paths.specs.Labels.{selects, numberOf, relabel, united, labelled, labelsOf, byLabels}

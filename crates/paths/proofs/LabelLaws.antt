@@ -20,14 +20,14 @@ use Rattle.ground.proofs.ListLaws.{mem-getD, getD-map}
 use Rattle.ground.proofs.NumbersLaws.{below-length, below-getD}
 use Rattle.entries.specs.Places.{place}
 use Rattle.entries.specs.Clauses.{noClause, domainOf}
-use Rattle.envelopes.specs.Parts.{relationsOf, clausesOf, relationCount, columnsIn}
+use Rattle.contents.specs.Parts.{relationsOf, clausesOf, relationCount, columnsIn}
 use Rattle.envelopes.specs.Rules.{PlaceWithin, KindWithin, ClauseWithin, Within}
 use Rattle.entries.specs.declared.places.Place.{Place}
 use Rattle.entries.specs.declared.clauses.Clause.{Clause}
 use Rattle.entries.specs.declared.clauses.ClauseKind.{ClauseKind}
 use Rattle.entries.specs.declared.clauses.ClauseKind.the-variants.{Selection, Join}
-use Rattle.envelopes.specs.declared.envelope.Envelope.{Envelope}
-use Rattle.envelopes.proofs.PartLaws.{columns-outside}
+use Rattle.contents.specs.declared.envelope.Envelope.{Envelope}
+use Rattle.contents.proofs.PartLaws.{columns-outside}
 use Rattle.paths.specs.Paths.{Node, column, constant, sameNode, Edge, edgeOf, edges, PathBetween, linked, onPath}
 use Rattle.paths.specs.Steps.{isPlace}
 use Rattle.paths.specs.Labels.{selects, NodeOf, numberOf, relabel, united, labelled, labelsOf, byLabels}

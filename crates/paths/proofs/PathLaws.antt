@@ -9,7 +9,7 @@ use borrow.Author.Tests.{eqb-true, eq-eqb}
 use Rattle.ground.proofs.TestLaws.{and-left, and-right, and-both, or-cases, or-left, or-right, same-test}
 use Rattle.entries.specs.Places.{samePlace}
 use Rattle.entries.specs.declared.places.Place.{Place}
-use Rattle.envelopes.specs.declared.envelope.Envelope.{Envelope}
+use Rattle.contents.specs.declared.envelope.Envelope.{Envelope}
 use Rattle.paths.specs.Paths.{Node, column, constant, sameNode, Edge, edges, PathBetween, stay, along, back, linked, onPath}
 
 -- ---- nodes are the same exactly where they are equal

@@ -5,9 +5,9 @@ use Prim.Native.Nat.{ℕ, _≤_, _<_, min}
 use borrow.Author.Tests.{lt-ltb, le-ltb, eq-eqb, ne-eqb, not-true, not-false}
 use lib.Dec.{ltb}
 use Rattle.ground.specs.declared.Verdict.the-variants as v
-use Rattle.envelopes.specs.Parts.{columnsIn}
+use Rattle.contents.specs.Parts.{columnsIn}
 use Rattle.entries.specs.declared.places.Place.{Place}
-use Rattle.envelopes.specs.declared.envelope.Envelope.{Envelope}
+use Rattle.contents.specs.declared.envelope.Envelope.{Envelope}
 use Rattle.envelopes.specs.declared.reading.EnvelopeRead.{EnvelopeRead}
 use Rattle.envelopes.specs.Envelope.{checkEnvelope, shownEnvelope}
 use Rattle.envelopes.specs.Rules.{Within}

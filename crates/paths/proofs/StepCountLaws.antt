@@ -14,11 +14,11 @@ use Rattle.ground.specs.Order.{Ordered}
 use Rattle.ground.proofs.TestLaws.{not-holds}
 use Rattle.ground.proofs.ListLaws.{any-of, any-from, filter-append, filter-map, filter-alike, fewer-pass, none-pass}
 use Rattle.ground.proofs.EveryLaws.{every-at}
-use Rattle.envelopes.specs.Parts.{clausesOf}
+use Rattle.contents.specs.Parts.{clausesOf}
 use Rattle.envelopes.specs.Rules.{Within}
 use Rattle.entries.specs.declared.places.Place.{Place}
 use Rattle.entries.specs.declared.clauses.Clause.{Clause}
-use Rattle.envelopes.specs.declared.envelope.Envelope.{Envelope}
+use Rattle.contents.specs.declared.envelope.Envelope.{Envelope}
 use Rattle.paths.specs.Paths.{Node, column, Edge, edgeOf, edges, linked, onPath}
 use Rattle.paths.specs.Steps.{step, places, legal, legalSteps, PlaceBefore}
 use Rattle.paths.proofs.PathLaws.{same-node, Ways, split, before, onward, backward, linked-turned, linked-chain}

@@ -14,10 +14,10 @@ use Rattle.ground.proofs.ListLaws.{filter-mem, filter-from, each-mem, each-from
 use Rattle.ground.proofs.NumbersLaws.{below-mem, below-from}
 use Rattle.ground.proofs.OrderLaws.{numbers-ordered, ordered-filter, ordered-map, ordered-each}
 use Rattle.entries.specs.Places.{place}
-use Rattle.envelopes.specs.Parts.{relationCount, columnsIn}
+use Rattle.contents.specs.Parts.{relationCount, columnsIn}
 use Rattle.envelopes.specs.Rules.{Within}
 use Rattle.entries.specs.declared.places.Place.{Place}
-use Rattle.envelopes.specs.declared.envelope.Envelope.{Envelope}
+use Rattle.contents.specs.declared.envelope.Envelope.{Envelope}
 use Rattle.paths.specs.Paths.{column, onPath}
 use Rattle.paths.specs.Labels.{labelsOf, byLabels}
 use Rattle.paths.specs.Steps.{step, places, isPlace, legalBy, legal, LegalStep, legalSteps, PlaceBefore, StepBefore}

@@ -11,12 +11,12 @@ use Rattle.ground.specs.Tests.{pick}
 use Rattle.ground.specs.Lists.{below}
 use Rattle.ground.specs.Searching.{firstFrom}
 use Rattle.entries.specs.Clauses.{noClause, domainOf}
-use Rattle.envelopes.specs.Parts.{clausesOf}
+use Rattle.contents.specs.Parts.{clausesOf}
 use Rattle.entries.specs.declared.clauses.Clause.{Clause}
 use Rattle.entries.specs.declared.clauses.ClauseKind.{ClauseKind}
 use Rattle.entries.specs.declared.clauses.ClauseKind.the-variants.{Selection, Join}
 use Rattle.entries.specs.declared.relations.Relation.{Relation}
-use Rattle.envelopes.specs.declared.envelope.Envelope.{Envelope}
+use Rattle.contents.specs.declared.envelope.Envelope.{Envelope}
 use Rattle.paths.specs.Paths.{Node, column, constant, Edge, edges}
 
 -- a clause selects a constant of a domain

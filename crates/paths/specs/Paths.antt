@@ -7,13 +7,13 @@ use Prim.Native.Nat.{ℕ}
 use lib.Dec.{eqb}
 use Rattle.entries.specs.Places.{samePlace}
 use Rattle.entries.specs.Clauses.{domainOf}
-use Rattle.envelopes.specs.Parts.{clausesOf}
+use Rattle.contents.specs.Parts.{clausesOf}
 use Rattle.entries.specs.declared.places.Place.{Place}
 use Rattle.entries.specs.declared.relations.Relation.{Relation}
 use Rattle.entries.specs.declared.clauses.Clause.{Clause}
 use Rattle.entries.specs.declared.clauses.ClauseKind.{ClauseKind}
 use Rattle.entries.specs.declared.clauses.ClauseKind.the-variants.{Selection, Join}
-use Rattle.envelopes.specs.declared.envelope.Envelope.{Envelope}
+use Rattle.contents.specs.declared.envelope.Envelope.{Envelope}
 
 -- a column, or a constant of a domain
 pub data Node : Type 0 where

@@ -9,9 +9,9 @@ use Rattle.ground.specs.Lists.{filter, each, below}
 use Rattle.ground.specs.Outcome.{Outcome}
 use Rattle.ground.specs.Outcome.Outcome.{good, bad}
 use Rattle.entries.specs.Places.{place, placeBytes}
-use Rattle.envelopes.specs.Parts.{relationCount, columnsIn}
+use Rattle.contents.specs.Parts.{relationCount, columnsIn}
 use Rattle.entries.specs.declared.places.Place.{Place}
-use Rattle.envelopes.specs.declared.envelope.Envelope.{Envelope}
+use Rattle.contents.specs.declared.envelope.Envelope.{Envelope}
 use Rattle.paths.specs.Paths.{Node, column, onPath}
 use Rattle.paths.specs.declared.steps.Step.{Step}
 use Rattle.paths.specs.declared.steps.Legality.{Legality}

@@ -1,16 +1,16 @@
 // A label for each column and each constant of an envelope: equal labels exactly where a path joins two. Whatever struct comes
 // in has labels: a number past the array has label 0.
+use contents::envelope::Envelope;
 use entries::clauses::Clause;
 use entries::clauses::ClauseKind;
 use entries::places::Place;
 use entries::relations::Relation;
-use envelopes::envelope::Envelope;
 ghost use mathlib.Core.Path.{_≡_};
 ghost use Prim.Native.Nat.{_+_, _*_};
 ghost use mathlib.Core.List.{map};
 ghost use lib.ListN.{getD, take};
 ghost use Rattle.entries.specs.declared.clauses.Clause.{Clause};
-ghost use Rattle.envelopes.specs.declared.envelope.Envelope.{Envelope};
+ghost use Rattle.contents.specs.declared.envelope.Envelope.{Envelope};
 ghost use Rattle.paths.specs.Paths.{column, constant, edgeOf};
 ghost use Rattle.paths.specs.Labels.{selects, numberOf, relabel, united, labelled, labelsOf, byLabels};
 

@@ -1,7 +1,7 @@
 // A step R<A=B]S of a program: left is R.A, right is S.B.
 use crate::labels::Labels;
+use contents::envelope::Envelope;
 use entries::places::Place;
-use envelopes::envelope::Envelope;
 use ground::Verdict;
 ghost use mathlib.Core.Path.{_≡_};
 ghost use Rattle.envelopes.specs.Envelope.{checkEnvelope};
@@ -27,7 +27,7 @@ pub fn is_place(envelope: Envelope, place: Place) -> bool
     if ground::used::in_use(8, envelope.relation_count) <= place.relation as usize {
         return false;
     }
-    (place.column as u32) < envelopes::parts::columns_in(envelope, place.relation)
+    (place.column as u32) < contents::parts::columns_in(envelope, place.relation)
 }
 
 // Whether a step is legal by an envelope's labels.

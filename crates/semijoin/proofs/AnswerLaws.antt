@@ -13,8 +13,8 @@ use Rattle.ground.proofs.ListLaws.{all-index, filter-map, filter-implied, map-m
 use Rattle.ground.proofs.NumbersLaws.{below-length, below-getD, below-from}
 use Rattle.ground.proofs.CountLaws.{split}
 use Rattle.ground.proofs.CombinationLaws.{combinations-from, combinations-length, combinations-filters, combinations-map}
-use Rattle.envelopes.specs.Parts.{relationCount, clausesOf, targetsOf}
-use Rattle.envelopes.specs.declared.envelope.Envelope.{Envelope}
+use Rattle.contents.specs.Parts.{relationCount, clausesOf, targetsOf}
+use Rattle.contents.specs.declared.envelope.Envelope.{Envelope}
 use Rattle.paths.specs.Meaning.{Row, Table, meetsAll, targetRow, answerOn, answerRows}
 use Rattle.semijoin.specs.Offsets.{countIn, rowsAt, marksAt}
 use Rattle.semijoin.specs.Marks.{isKept, keptOf, keptRows}

@@ -19,7 +19,7 @@ use Rattle.fields.specs.Refusals.{wrongShape, tooShort, notOurs, notSound}
 use Rattle.envelopes.specs.Envelope.{checkEnvelope}
 use Rattle.envelopes.specs.Rules.{Within}
 use Rattle.entries.specs.declared.places.Place.{Place}
-use Rattle.envelopes.specs.declared.envelope.Envelope.{Envelope}
+use Rattle.contents.specs.declared.envelope.Envelope.{Envelope}
 use Rattle.envelopes.proofs.ExactEnvelope.{check-complete}
 use Rattle.paths.specs.Steps.{isPlace}
 use Rattle.papers.specs.Programs.{Acceptable}

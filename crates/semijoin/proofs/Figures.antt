@@ -15,11 +15,11 @@ use Rattle.entries.specs.Clauses.{clause, domainOf, selectionAt, joined, joinAt
 use Rattle.entries.specs.declared.places.Place.{Place}
 use Rattle.entries.specs.declared.relations.Column.{Column}
 use Rattle.entries.specs.declared.clauses.ClauseKind.the-variants.{Join}
-use Rattle.envelopes.specs.Parts.{columnsIn, sizesOf, relationsOf, clausesOf, targetsOf, noEnvelope, withVersion, withSizes, withRelations, withClauses, withTargets}
-use Rattle.envelopes.specs.Sites.{siteOf, isAt, holds}
-use Rattle.envelopes.specs.Kept.{names, kept, keptColumns, firstBare}
+use Rattle.contents.specs.Parts.{columnsIn, sizesOf, relationsOf, clausesOf, targetsOf, noEnvelope, withVersion, withSizes, withRelations, withClauses, withTargets}
+use Rattle.contents.specs.Sites.{siteOf, isAt, holds}
+use Rattle.contents.specs.Kept.{names, kept, keptColumns, firstBare}
 use Rattle.envelopes.specs.Envelope.{filled, listInto, ended, targetsThen, clausesThen, relationsThen, sizesThen, envelopeFrom, envelopeBytes, checkEnvelope}
-use Rattle.envelopes.specs.declared.envelope.Envelope.{Envelope}
+use Rattle.contents.specs.declared.envelope.Envelope.{Envelope}
 use Rattle.paths.specs.Paths.{edges, onPath}
 use Rattle.paths.specs.Steps.{step, isPlace, legalBy, stepBytes}
 use Rattle.paths.specs.Implied.{constantsOf, selectionsBy, equalitiesBy}

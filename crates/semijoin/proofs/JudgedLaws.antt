@@ -19,7 +19,7 @@ use Rattle.ground.proofs.OutcomeLaws.{never, good-bad}
 use Rattle.ground.proofs.RefusingLaws.{someFail, judged-none}
 use Rattle.fields.specs.Refusals.{wrongShape, tooShort, notOurs}
 use Rattle.entries.specs.declared.places.Place.{Place}
-use Rattle.envelopes.specs.declared.envelope.Envelope.{Envelope}
+use Rattle.contents.specs.declared.envelope.Envelope.{Envelope}
 use Rattle.paths.specs.Steps.{isPlace}
 use Rattle.semijoin.specs.Offsets.{rowCount}
 use Rattle.semijoin.specs.Shape.{shaped, marksTests, columnTests, judgement}

@@ -15,9 +15,9 @@ use Rattle.ground.specs.Lists.{all, any, each, below, padded, numbersFrom}
 use Rattle.ground.proofs.UsedLaws.{used-outside}
 use Rattle.ground.proofs.NumbersLaws.{each-below}
 use Rattle.ground.proofs.PuttingLaws.{sets-append}
-use Rattle.envelopes.specs.Parts.{relationCount}
+use Rattle.contents.specs.Parts.{relationCount}
 use Rattle.envelopes.specs.Rules.{Within}
-use Rattle.envelopes.specs.declared.envelope.Envelope.{Envelope}
+use Rattle.contents.specs.declared.envelope.Envelope.{Envelope}
 use Rattle.paths.specs.Labels.{labelsOf, byLabels}
 use Rattle.paths.specs.Implied.{selected, equal, selectionsBy, equalitiesBy, impliedSelections, impliedEqualities, shownSelections, shownEqualities}
 use Rattle.paths.specs.Meaning.{Row, Table, wordIn}

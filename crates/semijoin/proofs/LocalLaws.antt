@@ -17,8 +17,8 @@ use Rattle.ground.proofs.TestLaws.{and-both}
 use Rattle.ground.proofs.ListLaws.{all-of, each-append, getD-map}
 use Rattle.ground.proofs.NumbersLaws.{numbers-append, each-below}
 use Rattle.ground.proofs.PuttingLaws.{sets-behind}
-use Rattle.envelopes.specs.Parts.{relationCount}
-use Rattle.envelopes.specs.declared.envelope.Envelope.{Envelope}
+use Rattle.contents.specs.Parts.{relationCount}
+use Rattle.contents.specs.declared.envelope.Envelope.{Envelope}
 use Rattle.paths.specs.Meaning.{Row, wordIn}
 use Rattle.paths.specs.Implied.{impliedSelections, impliedEqualities}
 use Rattle.paths.specs.declared.implied.Selected.{Selected}

@@ -8,8 +8,8 @@ use native.Mathlib.Omega.{arith}
 use lib.ListN.{length, getD, take, length-take, List·getD-eq-default}
 use Rattle.ground.proofs.TestLaws.{not-holds}
 use Rattle.ground.proofs.CountLaws.{split}
-use Rattle.envelopes.specs.Parts.{relationCount, columnsIn}
-use Rattle.envelopes.specs.declared.envelope.Envelope.{Envelope}
+use Rattle.contents.specs.Parts.{relationCount, columnsIn}
+use Rattle.contents.specs.declared.envelope.Envelope.{Envelope}
 use Rattle.semijoin.specs.Offsets.{countIn, firstWord, firstMark}
 use Rattle.semijoin.specs.Shape.{shaped}
 use Rattle.semijoin.specs.Extents.{extentOf}

@@ -12,8 +12,8 @@ use Rattle.ground.proofs.UsedLaws.{used-inside, used-outside}
 use Rattle.ground.proofs.NumbersLaws.{below-length, below-getD}
 use Rattle.ground.proofs.ListLaws.{getD-map}
 use Rattle.ground.proofs.CountLaws.{split}
-use Rattle.envelopes.specs.Parts.{relationCount, columnsIn}
-use Rattle.envelopes.specs.declared.envelope.Envelope.{Envelope}
+use Rattle.contents.specs.Parts.{relationCount, columnsIn}
+use Rattle.contents.specs.declared.envelope.Envelope.{Envelope}
 use Rattle.paths.specs.Meaning.{Row, Table, wordIn, rowsIn, tablesIn, countsOf, tablesOf}
 use Rattle.semijoin.specs.Offsets.{countIn, wordsBefore, rowsBefore, firstWord, firstMark, rowsAt}
 use Rattle.semijoin.proofs.SumLaws.{sum-none, sum-below, sum-end}

@@ -19,9 +19,9 @@ use Rattle.ground.proofs.ListLaws.{any-from, any-of, map-from, map-mem, mem-get
 use Rattle.ground.proofs.CombinationLaws.{combinations-from}
 use Rattle.ground.proofs.RisingLaws.{rising-rises, rising-length, rising-any}
 use Rattle.ground.proofs.UsedLaws.{used-outside}
-use Rattle.envelopes.specs.Parts.{relationCount}
+use Rattle.contents.specs.Parts.{relationCount}
 use Rattle.entries.specs.declared.places.Place.{Place}
-use Rattle.envelopes.specs.declared.envelope.Envelope.{Envelope}
+use Rattle.contents.specs.declared.envelope.Envelope.{Envelope}
 use Rattle.paths.specs.Meaning.{Row, Table, wordIn, valueIn, tablesOf}
 use Rattle.paths.specs.Steps.{isPlace, legal}
 use Rattle.paths.specs.declared.steps.Step.{Step}

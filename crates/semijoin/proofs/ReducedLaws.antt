@@ -8,9 +8,9 @@ use lib.Seq.{sets, length-sets}
 use Rattle.ground.specs.Tests.{pick}
 use Rattle.ground.specs.Lists.{filter}
 use Rattle.ground.proofs.CountLaws.{split}
-use Rattle.envelopes.specs.Parts.{relationCount}
+use Rattle.contents.specs.Parts.{relationCount}
 use Rattle.entries.specs.declared.places.Place.{Place}
-use Rattle.envelopes.specs.declared.envelope.Envelope.{Envelope}
+use Rattle.contents.specs.declared.envelope.Envelope.{Envelope}
 use Rattle.semijoin.specs.Offsets.{countIn, firstMark, rowCount, rowsAt, marksAt}
 use Rattle.semijoin.specs.Rising.{among}
 use Rattle.semijoin.specs.Marks.{keptOf, keptRows, sieved, reducedBy, removedBy}

@@ -26,8 +26,8 @@ use Rattle.envelopes.specs.Fits.{Fits}
 use Rattle.envelopes.specs.Rules.{Within, tidy}
 use Rattle.envelopes.proofs.TidyLaws.{tidy-within}
 use Rattle.envelopes.proofs.ExactEnvelope.{check-complete}
-use Rattle.envelopes.specs.Parts.{relationCount, clausesOf, targetsOf}
-use Rattle.envelopes.specs.declared.envelope.Envelope.{Envelope}
+use Rattle.contents.specs.Parts.{relationCount, clausesOf, targetsOf}
+use Rattle.contents.specs.declared.envelope.Envelope.{Envelope}
 use Rattle.paths.specs.Meaning.{Row, Table, wordIn, valueIn, answerOn, answerRows}
 use Rattle.paths.specs.Steps.{legal}
 use Rattle.papers.specs.Programs.{stepsOf, programAgainst, readProgram, programBytes, checkProgram, Acceptable, tidyProgram}

@@ -13,8 +13,8 @@ use Rattle.ground.proofs.TestLaws.{and-left, and-right, and-both}
 use Rattle.ground.proofs.CountLaws.{split}
 use Rattle.ground.proofs.ListLaws.{all-at, all-of}
 use Rattle.ground.proofs.NumbersLaws.{below-mem}
-use Rattle.envelopes.specs.Parts.{relationCount, columnsIn}
-use Rattle.envelopes.specs.declared.envelope.Envelope.{Envelope}
+use Rattle.contents.specs.Parts.{relationCount, columnsIn}
+use Rattle.contents.specs.declared.envelope.Envelope.{Envelope}
 use Rattle.entries.specs.declared.places.Place.{Place}
 use Rattle.paths.specs.Steps.{isPlace}
 use Rattle.semijoin.specs.Offsets.{countIn, firstWord}

@@ -10,10 +10,10 @@ use Rattle.ground.specs.Tests.{pick}
 use Rattle.ground.specs.Lists.{below, sum}
 use Rattle.ground.proofs.ListLaws.{map-alike, each-alike, all-alike}
 use Rattle.ground.proofs.CollectingLaws.{padded-take}
-use Rattle.envelopes.specs.Parts.{relationCount, columnsIn}
+use Rattle.contents.specs.Parts.{relationCount, columnsIn}
 use Rattle.envelopes.specs.Rules.{Within, tidy}
 use Rattle.entries.specs.declared.places.Place.{Place}
-use Rattle.envelopes.specs.declared.envelope.Envelope.{Envelope}
+use Rattle.contents.specs.declared.envelope.Envelope.{Envelope}
 use Rattle.envelopes.proofs.TidyLaws.{tidy-relation-count, tidy-columns-in}
 use Rattle.paths.specs.Meaning.{Row}
 use Rattle.papers.specs.Programs.{noStep, stepsOf, tidyProgram}

@@ -6,8 +6,8 @@ use mathlib.Core.List.{List, [], map}
 use lib.ListN.{getD, take, drop}
 use lib.Seq.{sets}
 use Rattle.ground.specs.Tests.{pick}
-use Rattle.envelopes.specs.Parts.{columnsIn}
-use Rattle.envelopes.specs.declared.envelope.Envelope.{Envelope}
+use Rattle.contents.specs.Parts.{columnsIn}
+use Rattle.contents.specs.declared.envelope.Envelope.{Envelope}
 use Rattle.paths.specs.Meaning.{Row, Table, wordIn, rowsIn}
 use Rattle.paths.specs.declared.implied.Selected.{Selected}
 use Rattle.paths.specs.declared.implied.Equal.{Equal}

@@ -11,9 +11,9 @@ use Rattle.ground.specs.Lists.{all, each, below}
 use Rattle.ground.specs.Outcome.{Outcome, next}
 use Rattle.ground.specs.Outcome.Outcome.{good}
 use Rattle.ground.specs.Refusing.{judged}
-use Rattle.envelopes.specs.Parts.{relationCount}
+use Rattle.contents.specs.Parts.{relationCount}
 use Rattle.envelopes.specs.Envelope.{checkEnvelope}
-use Rattle.envelopes.specs.declared.envelope.Envelope.{Envelope}
+use Rattle.contents.specs.declared.envelope.Envelope.{Envelope}
 use Rattle.paths.specs.Implied.{impliedSelections, impliedEqualities}
 use Rattle.paths.specs.Meaning.{Row, wordIn}
 use Rattle.paths.specs.declared.implied.Selected.{Selected}

@@ -12,9 +12,9 @@ use Rattle.ground.specs.Outcome.{Outcome}
 use Rattle.ground.specs.Outcome.Outcome.{good, bad}
 use Rattle.ground.specs.Refusing.{test, judged}
 use Rattle.fields.specs.Refusals.{notSound}
-use Rattle.envelopes.specs.Parts.{relationCount}
+use Rattle.contents.specs.Parts.{relationCount}
 use Rattle.entries.specs.declared.places.Place.{Place}
-use Rattle.envelopes.specs.declared.envelope.Envelope.{Envelope}
+use Rattle.contents.specs.declared.envelope.Envelope.{Envelope}
 use Rattle.paths.specs.Meaning.{Table, wordIn}
 use Rattle.semijoin.specs.Offsets.{rowsAt, marksAt, firstMark}
 use Rattle.semijoin.specs.Shape.{columnTests}

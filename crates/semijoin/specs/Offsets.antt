@@ -4,8 +4,8 @@ use Prim.Native.Nat.{ℕ, _+_, _*_}
 use mathlib.Core.List.{List, map}
 use lib.ListN.{getD, take, drop}
 use Rattle.ground.specs.Lists.{below, sum}
-use Rattle.envelopes.specs.Parts.{relationCount, columnsIn}
-use Rattle.envelopes.specs.declared.envelope.Envelope.{Envelope}
+use Rattle.contents.specs.Parts.{relationCount, columnsIn}
+use Rattle.contents.specs.declared.envelope.Envelope.{Envelope}
 use Rattle.paths.specs.Meaning.{Table, rowsIn, countsOf}
 
 -- the row count of a relation

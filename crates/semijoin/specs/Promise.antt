@@ -10,9 +10,9 @@ use lib.ListN.{length, getD, drop}
 use Rattle.ground.specs.Tests.{pick}
 use Rattle.ground.specs.Lists.{combinations, filter, below}
 use Rattle.ground.specs.Rising.{Rises}
-use Rattle.envelopes.specs.Parts.{clausesOf}
+use Rattle.contents.specs.Parts.{clausesOf}
 use Rattle.entries.specs.declared.places.Place.{Place}
-use Rattle.envelopes.specs.declared.envelope.Envelope.{Envelope}
+use Rattle.contents.specs.declared.envelope.Envelope.{Envelope}
 use Rattle.paths.specs.Meaning.{Row, Table, Combination, wordIn, meetsAll, tablesOf}
 use Rattle.paths.specs.Steps.{isPlace, legal}
 use Rattle.paths.specs.declared.steps.Step.{Step}

@@ -6,7 +6,7 @@ use lib.ListN.{length}
 use Rattle.ground.specs.Outcome.{Outcome, next}
 use Rattle.ground.specs.Outcome.Outcome.{good}
 use Rattle.ground.specs.Refusing.{judged}
-use Rattle.envelopes.specs.declared.envelope.Envelope.{Envelope}
+use Rattle.contents.specs.declared.envelope.Envelope.{Envelope}
 use Rattle.papers.specs.Programs.{stepsOf}
 use Rattle.papers.specs.Checks.{papersOf}
 use Rattle.paths.specs.declared.steps.Step.{Step}

@@ -11,9 +11,9 @@ use Rattle.ground.specs.Outcome.Outcome.{good}
 use Rattle.ground.specs.Refusing.{Test, test, judged}
 use Rattle.ground.specs.declared.Verdict.{Verdict}
 use Rattle.fields.specs.Refusals.{wrongShape, tooShort, notOurs}
-use Rattle.envelopes.specs.Parts.{relationCount}
+use Rattle.contents.specs.Parts.{relationCount}
 use Rattle.entries.specs.declared.places.Place.{Place}
-use Rattle.envelopes.specs.declared.envelope.Envelope.{Envelope}
+use Rattle.contents.specs.declared.envelope.Envelope.{Envelope}
 use Rattle.paths.specs.Steps.{isPlace}
 use Rattle.semijoin.specs.Offsets.{countIn, firstWord, rowCount}
 

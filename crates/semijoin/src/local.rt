@@ -1,6 +1,6 @@
 // Local operations: the rows of a relation that pass its implied selections and equalities, and the marks at opening.
 use crate::offsets::Extent;
-use envelopes::envelope::Envelope;
+use contents::envelope::Envelope;
 use ground::Verdict;
 use paths::implied::Equal;
 use paths::implied::Equalities;

@@ -1,5 +1,5 @@
 // Where a relation's rows and marks lie. No other place adds up row counts.
-use envelopes::envelope::Envelope;
+use contents::envelope::Envelope;
 ghost use mathlib.Core.Path.{_≡_};
 ghost use Rattle.semijoin.specs.Offsets.{countIn, rowCount};
 ghost use Rattle.semijoin.specs.Extents.{extentOf};
@@ -34,13 +34,13 @@ pub fn extent_of(envelope: Envelope, tables: &[u32], relation: u8) -> Extent
     let mut mark: usize = 0;
     let mut i: u8 = 0;
     while i < relation {
-        let columns = envelopes::parts::columns_in(envelope, i);
+        let columns = contents::parts::columns_in(envelope, i);
         let rows = count_in(envelope, tables, i);
         word += rows as usize * columns as usize;
         mark += rows as usize;
         i += 1;
     }
-    let columns = envelopes::parts::columns_in(envelope, relation);
+    let columns = contents::parts::columns_in(envelope, relation);
     let rows = count_in(envelope, tables, relation);
     Extent {
         columns: columns as usize,

@@ -1,5 +1,5 @@
 // The one-place run: every check first, then local operations on all relations, then every step.
-use envelopes::envelope::Envelope;
+use contents::envelope::Envelope;
 use ground::Verdict;
 use papers::programs::Program;
 use paths::steps::Step;

@@ -1,6 +1,6 @@
 // Whether tables are of an envelope's shape and within the sizes; and the refusals that calls on tables and marks begin with.
+use contents::envelope::Envelope;
 use entries::places::Place;
-use envelopes::envelope::Envelope;
 use fields::refusals;
 use ground::Verdict;
 ghost use mathlib.Core.Path.{_≡_};

@@ -20,9 +20,9 @@ use Rattle.ground.proofs.RefusingLaws.{judged-good}
 use Rattle.ground.proofs.EveryLaws.{every-getD}
 use Rattle.ground.proofs.TestLaws.{and-left}
 use Rattle.fields.specs.Refusals.{beyondLimit}
-use Rattle.envelopes.specs.Parts.{relationCount}
-use Rattle.envelopes.specs.Sites.{isAt}
-use Rattle.envelopes.specs.declared.envelope.Envelope.{Envelope}
+use Rattle.contents.specs.Parts.{relationCount}
+use Rattle.contents.specs.Sites.{isAt}
+use Rattle.contents.specs.declared.envelope.Envelope.{Envelope}
 use Rattle.paths.specs.Steps.{legal, LegalStep}
 use Rattle.papers.specs.Programs.{noStep, stepsOf}
 use Rattle.paths.specs.declared.steps.Step.{Step}

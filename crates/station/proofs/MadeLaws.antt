@@ -11,9 +11,9 @@ use Rattle.ground.proofs.EveryLaws.{every-of, every-mapped}
 use Rattle.ground.proofs.ListLaws.{filter-length}
 use Rattle.ground.proofs.NumbersLaws.{below-length}
 use Rattle.entries.specs.declared.places.Place.{Place}
-use Rattle.envelopes.specs.Parts.{relationCount}
-use Rattle.envelopes.specs.Kept.{keptColumns}
-use Rattle.envelopes.specs.declared.envelope.Envelope.{Envelope}
+use Rattle.contents.specs.Parts.{relationCount}
+use Rattle.contents.specs.Kept.{keptColumns}
+use Rattle.contents.specs.declared.envelope.Envelope.{Envelope}
 use Rattle.paths.specs.Meaning.{Row, wordIn}
 use Rattle.semijoin.specs.Offsets.{countIn, rowCount}
 use Rattle.semijoin.specs.Shape.{shaped}

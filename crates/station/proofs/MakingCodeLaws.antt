@@ -16,8 +16,8 @@ use Rattle.ground.specs.declared.Verdict.{Verdict}
 use Rattle.ground.specs.declared.Verdict.the-variants as v
 use Rattle.ground.proofs.TestLaws.{and-left}
 use Rattle.fields.specs.Refusals.{tooShort, waiting, notOurs}
-use Rattle.envelopes.specs.Sites.{isAt}
-use Rattle.envelopes.specs.declared.envelope.Envelope.{Envelope}
+use Rattle.contents.specs.Sites.{isAt}
+use Rattle.contents.specs.declared.envelope.Envelope.{Envelope}
 use Rattle.paths.specs.Steps.{isPlace}
 use Rattle.papers.specs.Checks.{shownPapers}
 use Rattle.paths.specs.declared.steps.Step.{Step}

@@ -16,9 +16,9 @@ use Rattle.ground.proofs.ListLaws.{getD-map}
 use Rattle.ground.proofs.NumbersLaws.{below-length, below-getD, map-below}
 use Rattle.ground.proofs.CollectingLaws.{Collecting, collecting-start, collecting-push, padded-full}
 use Rattle.fields.specs.Refusals.{beyondLimit, wrongShape, tooShort}
-use Rattle.envelopes.specs.Sites.{isAt}
-use Rattle.envelopes.specs.declared.envelope.Envelope.{Envelope}
-use Rattle.envelopes.proofs.SiteLaws.{at-none}
+use Rattle.contents.specs.Sites.{isAt}
+use Rattle.contents.specs.declared.envelope.Envelope.{Envelope}
+use Rattle.contents.proofs.SiteLaws.{at-none}
 use Rattle.papers.specs.Checks.{papersOf, shownPapers}
 use Rattle.papers.specs.declared.programs.Program.{Program}
 use Rattle.papers.specs.declared.checks.Papers.{Papers}

@@ -16,10 +16,10 @@ use Rattle.ground.proofs.NumbersLaws.{below-length, filter-below, below-more}
 use Rattle.ground.proofs.PuttingLaws.{sets-append, Copying, copying-start, copying-more, copying-done}
 use Rattle.ground.proofs.CollectingLaws.{padded-take}
 use Rattle.fields.specs.Refusals.{tooShort}
-use Rattle.envelopes.specs.Parts.{relationCount, columnsIn}
-use Rattle.envelopes.specs.Kept.{keptColumns, kept, shownColumns}
-use Rattle.envelopes.specs.declared.envelope.Envelope.{Envelope}
-use Rattle.envelopes.specs.declared.kept.Columns.{Columns}
+use Rattle.contents.specs.Parts.{relationCount, columnsIn}
+use Rattle.contents.specs.Kept.{keptColumns, kept, shownColumns}
+use Rattle.contents.specs.declared.envelope.Envelope.{Envelope}
+use Rattle.contents.specs.declared.kept.Columns.{Columns}
 use Rattle.paths.specs.Meaning.{Row, Table, wordIn}
 use Rattle.semijoin.specs.Offsets.{countIn, rowCount}
 use Rattle.semijoin.specs.Shape.{shaped}

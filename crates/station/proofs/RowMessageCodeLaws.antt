@@ -17,12 +17,12 @@ use Rattle.ground.proofs.NumbersLaws.{below-length}
 use Rattle.ground.proofs.PuttingLaws.{sets-append}
 use Rattle.ground.proofs.CollectingLaws.{padded-take}
 use Rattle.fields.specs.Refusals.{tooShort, notOurs}
-use Rattle.envelopes.specs.Parts.{relationCount, columnsIn}
-use Rattle.envelopes.specs.Sites.{isAt}
-use Rattle.envelopes.specs.Kept.{kept, keptColumns, shownColumns}
-use Rattle.envelopes.specs.declared.envelope.Envelope.{Envelope}
-use Rattle.envelopes.specs.declared.kept.Columns.{Columns}
-use Rattle.envelopes.proofs.SiteLaws.{at-none}
+use Rattle.contents.specs.Parts.{relationCount, columnsIn}
+use Rattle.contents.specs.Sites.{isAt}
+use Rattle.contents.specs.Kept.{kept, keptColumns, shownColumns}
+use Rattle.contents.specs.declared.envelope.Envelope.{Envelope}
+use Rattle.contents.specs.declared.kept.Columns.{Columns}
+use Rattle.contents.proofs.SiteLaws.{at-none}
 use Rattle.entries.specs.Places.{place}
 use Rattle.papers.specs.Checks.{shownPapers}
 use Rattle.papers.specs.declared.programs.Program.{Program}

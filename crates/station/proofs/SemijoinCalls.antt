@@ -22,10 +22,10 @@ use Rattle.ground.proofs.NumbersLaws.{filter-below}
 use Rattle.ground.proofs.RefusingLaws.{judged-append, judged-none}
 use Rattle.fields.specs.Refusals.{tooShort, notSound}
 use Rattle.entries.specs.declared.places.Place.{Place}
-use Rattle.envelopes.specs.Parts.{relationCount}
+use Rattle.contents.specs.Parts.{relationCount}
 use Rattle.envelopes.specs.Rules.{Within, tidy}
 use Rattle.envelopes.specs.Envelope.{envelopeBytes}
-use Rattle.envelopes.specs.declared.envelope.Envelope.{Envelope}
+use Rattle.contents.specs.declared.envelope.Envelope.{Envelope}
 use Rattle.envelopes.proofs.ExactEnvelope.{check-complete}
 use Rattle.paths.specs.Steps.{isPlace}
 use Rattle.paths.specs.Meaning.{Row, Table, wordIn}

@@ -15,10 +15,10 @@ use Rattle.ground.specs.declared.Verdict.the-variants.{Taken, Refused}
 use Rattle.ground.proofs.CountLaws.{split}
 use Rattle.ground.proofs.PuttingLaws.{Copying, copying-length, copying-done}
 use Rattle.fields.specs.Refusals.{tooShort, notOurs, notSound, alreadyTaken, stepMissing}
-use Rattle.envelopes.specs.Sites.{isAt}
-use Rattle.envelopes.specs.Kept.{keptColumns, shownColumns}
-use Rattle.envelopes.specs.declared.envelope.Envelope.{Envelope}
-use Rattle.envelopes.specs.declared.kept.Columns.{Columns}
+use Rattle.contents.specs.Sites.{isAt}
+use Rattle.contents.specs.Kept.{keptColumns, shownColumns}
+use Rattle.contents.specs.declared.envelope.Envelope.{Envelope}
+use Rattle.contents.specs.declared.kept.Columns.{Columns}
 use Rattle.paths.specs.Steps.{isPlace}
 use Rattle.paths.specs.declared.steps.Step.{Step}
 use Rattle.papers.specs.declared.checks.Papers.{Papers}

@@ -12,8 +12,8 @@ use Rattle.ground.specs.Outcome.{Outcome, next}
 use Rattle.ground.specs.Outcome.Outcome.{good}
 use Rattle.ground.specs.Refusing.{test, judged}
 use Rattle.fields.specs.Refusals.{beyondLimit}
-use Rattle.envelopes.specs.Parts.{relationCount, noEnvelope}
-use Rattle.envelopes.specs.declared.envelope.Envelope.{Envelope}
+use Rattle.contents.specs.Parts.{relationCount, noEnvelope}
+use Rattle.contents.specs.declared.envelope.Envelope.{Envelope}
 use Rattle.papers.specs.Programs.{noProgram}
 use Rattle.papers.specs.Checks.{papersOf}
 use Rattle.papers.specs.declared.programs.Program.{Program}

@@ -11,9 +11,9 @@ use Rattle.ground.specs.Outcome.{Outcome, next}
 use Rattle.ground.specs.Outcome.Outcome.{good, bad}
 use Rattle.ground.specs.Refusing.{Test, test, judged}
 use Rattle.fields.specs.Refusals.{tooShort, waiting, notOurs}
-use Rattle.envelopes.specs.Sites.{isAt}
-use Rattle.envelopes.specs.Kept.{keptColumns}
-use Rattle.envelopes.specs.declared.envelope.Envelope.{Envelope}
+use Rattle.contents.specs.Sites.{isAt}
+use Rattle.contents.specs.Kept.{keptColumns}
+use Rattle.contents.specs.declared.envelope.Envelope.{Envelope}
 use Rattle.paths.specs.Meaning.{Row, Table, wordIn}
 use Rattle.papers.specs.declared.programs.Program.{Program}
 use Rattle.papers.specs.declared.checks.Papers.{Papers}

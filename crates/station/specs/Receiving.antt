@@ -12,9 +12,9 @@ use Rattle.ground.specs.Outcome.Outcome.{good, bad}
 use Rattle.ground.specs.declared.Verdict.the-variants.{Refused}
 use Rattle.ground.specs.Refusing.{test, judged}
 use Rattle.fields.specs.Refusals.{endsInside, tooShort, otherRun, notOurs, notSound, alreadyTaken, stepMissing}
-use Rattle.envelopes.specs.Parts.{relationCount}
-use Rattle.envelopes.specs.Sites.{isAt}
-use Rattle.envelopes.specs.Kept.{keptColumns}
+use Rattle.contents.specs.Parts.{relationCount}
+use Rattle.contents.specs.Sites.{isAt}
+use Rattle.contents.specs.Kept.{keptColumns}
 use Rattle.paths.specs.declared.steps.Step.{Step}
 use Rattle.papers.specs.declared.checks.Papers.{Papers}
 use Rattle.semijoin.specs.Marks.{reducedBy}

@@ -1,6 +1,6 @@
 // An end: what a station remembers of a run between calls; whether its papers and its counts are sound; and which relations
 // are here.
-use envelopes::envelope::Envelope;
+use contents::envelope::Envelope;
 use fields::refusals;
 use ground::Verdict;
 use papers::checks::Papers;
@@ -11,7 +11,7 @@ ghost use mathlib.Core.Path.{_≡_};
 ghost use Prim.Native.Nat.{min};
 ghost use lib.ListN.{getD};
 ghost use Rattle.ground.specs.Outcome.Outcome.{bad};
-ghost use Rattle.envelopes.specs.Sites.{isAt};
+ghost use Rattle.contents.specs.Sites.{isAt};
 ghost use Rattle.papers.specs.Programs.{noProgram};
 ghost use Rattle.papers.specs.Checks.{shownPapers};
 ghost use Rattle.station.specs.Ends.{overApplied, soundEnd, usable, noEnd};
@@ -48,7 +48,7 @@ fn no_program() -> Program
 pub(crate) fn no_end() -> End
     ensures { λ r. ⌜ r ≡ noEnd ⌝ }
 {
-    let envelope = envelopes::envelope::no_envelope();
+    let envelope = contents::envelope::no_envelope();
     let program = no_program();
     let applied = [0u32; 8];
     let arrived = [false; 8];
@@ -66,7 +66,7 @@ pub(crate) fn no_end() -> End
 fn refused_end(number: u8, position: usize) -> PapersRead
     ensures { λ r. ⌜ r ≡ shownPapers (bad number position) ⌝ }
 {
-    let envelope = envelopes::envelope::no_envelope();
+    let envelope = contents::envelope::no_envelope();
     let program = no_program();
     PapersRead {
         verdict: Verdict::Refused { number, position },
@@ -120,7 +120,7 @@ pub fn is_here(envelope: Envelope, site: u32, relation: u8) -> bool
     if ground::used::in_use(8, envelope.relation_count) <= relation as usize {
         return false;
     }
-    let own = envelopes::sites::site_of(envelope, relation);
+    let own = contents::sites::site_of(envelope, relation);
     own as u32 == site
 }
 

@@ -1,7 +1,7 @@
 // Making messages: the values of a step's right column, and the rows of a relation, from the marks of now.
 use crate::ends::End;
 use crate::reducing::Missing;
-use envelopes::envelope::Envelope;
+use contents::envelope::Envelope;
 use fields::refusals;
 use ground::Verdict;
 use papers::checks::Papers;
@@ -11,7 +11,7 @@ ghost use mathlib.Core.Path.{_≡_};
 ghost use mathlib.Core.Bool.{_&&_};
 ghost use lib.ListN.{length};
 ghost use lib.Dec.{ltb};
-ghost use Rattle.envelopes.specs.Sites.{isAt};
+ghost use Rattle.contents.specs.Sites.{isAt};
 ghost use Rattle.semijoin.specs.Shape.{judgement};
 ghost use Rattle.station.specs.Reducing.{stepCount};
 ghost use Rattle.station.specs.Ends.{Usable};

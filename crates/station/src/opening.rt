@@ -1,13 +1,13 @@
 // Opening an end: its papers are checked, and its marks set by the local operations of the relations that are here.
 use crate::ends::End;
-use envelopes::envelope::Envelope;
+use contents::envelope::Envelope;
 use fields::refusals;
 use ground::Verdict;
 use papers::checks::Papers;
 use papers::programs::Program;
 ghost use mathlib.Core.Path.{_≡_};
 ghost use Rattle.ground.specs.Outcome.Outcome.{bad};
-ghost use Rattle.envelopes.specs.Sites.{isAt};
+ghost use Rattle.contents.specs.Sites.{isAt};
 ghost use Rattle.papers.proofs.CheckLaws.{GoodPapers};
 ghost use Rattle.station.specs.Ends.{startOf};
 ghost use Rattle.station.specs.Opening.{openWith, openOf, shownOpened, openedMarks, hereAt};

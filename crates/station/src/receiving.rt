@@ -12,7 +12,7 @@ ghost use lib.ListN.{length, getD, drop};
 ghost use lib.Seq.{sets};
 ghost use lib.Dec.{ltb};
 ghost use Rattle.ground.specs.Tests.{pick};
-ghost use Rattle.envelopes.specs.Parts.{relationCount};
+ghost use Rattle.contents.specs.Parts.{relationCount};
 ghost use Rattle.semijoin.specs.Rising.{isRising};
 ghost use Rattle.station.specs.Reducing.{stepCount};
 ghost use Rattle.station.specs.Calls.{leaves};
@@ -172,7 +172,7 @@ fn take_rows(papers: Papers, end: End, store: &mut [u32], message: &[u32], relat
     if end.site != program.site as u32 {
         return refused(end, refusals::NOT_OURS, 0);
     }
-    let columns = envelopes::kept::kept_columns(envelope, relation);
+    let columns = contents::kept::kept_columns(envelope, relation);
     if !crate::messages::is_counted(message, columns.count) {
         return refused(end, refusals::NOT_SOUND, 0);
     }

@@ -1,6 +1,6 @@
 // The rows of a row message: the kept columns of a relation's kept rows, each row read once.
 use crate::making::Made;
-use envelopes::envelope::Envelope;
+use contents::envelope::Envelope;
 use fields::refusals;
 use semijoin::offsets::Extent;
 ghost use mathlib.Core.Path.{_≡_};
@@ -10,7 +10,7 @@ ghost use Prim.Native.Nat.{_+_, _*_, _≤_, _<_};
 ghost use lib.ListN.{length, take};
 ghost use lib.Seq.{sets};
 ghost use Rattle.ground.specs.Lists.{filter, below, each};
-ghost use Rattle.envelopes.specs.Parts.{relationCount};
+ghost use Rattle.contents.specs.Parts.{relationCount};
 ghost use Rattle.semijoin.specs.Offsets.{rowCount};
 ghost use Rattle.semijoin.specs.Shape.{shaped};
 ghost use Rattle.semijoin.specs.Extents.{wordOver, keptOver};
@@ -94,7 +94,7 @@ pub(crate) fn put_row_message(
     ensures { λ r. ⌜ (r ≡ shownMade (fitted (length (now (message .entry))) (rowMessage run relation (sentRows envelope (now (tables .entry)) (now (marks .entry)) relation)))) × (now (message .exit) ≡ madeIn (now (message .entry)) (fitted (length (now (message .entry))) (rowMessage run relation (sentRows envelope (now (tables .entry)) (now (marks .entry)) relation)))) ⌝ }
 {
     let extent = semijoin::offsets::extent_of(envelope, tables, relation);
-    let columns = envelopes::kept::kept_columns(envelope, relation);
+    let columns = contents::kept::kept_columns(envelope, relation);
     let numbers = columns.numbers;
     let count = count_kept(marks, extent);
     let width = ground::used::in_use(8, columns.count);

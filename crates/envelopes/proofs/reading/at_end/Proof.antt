@@ -4,7 +4,7 @@ use Rattle.envelopes.proofs.reading.at_end.Statement.{statement}
 use Rattle.envelopes.proofs.reading.at_end.Tie as tie
 use Rattle.envelopes.proofs.reading.at_end.Reads as reads
 use Rattle.envelopes.proofs.reading.at_end.Lts as lts
-use Rattle.envelopes.proofs.kept.lowest_bare.Reads as lowest-bare-reads
+use Rattle.contents.proofs.kept.lowest_bare.Reads as lowest-bare-reads
 use Rattle.envelopes.proofs.reading.refused_envelope.Reads as refused-envelope-reads
 
 refused-envelope-requires : tie.Need-refused-envelope-requires

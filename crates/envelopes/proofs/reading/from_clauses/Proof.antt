@@ -4,7 +4,7 @@ use Rattle.envelopes.proofs.reading.from_clauses.Statement.{statement}
 use Rattle.envelopes.proofs.reading.from_clauses.Tie as tie
 use Rattle.envelopes.proofs.reading.from_clauses.Reads as reads
 use Rattle.envelopes.proofs.reading.from_clauses.Lts as lts
-use Rattle.envelopes.proofs.envelope.read_clauses.Reads as read-clauses-reads
+use Rattle.envelopes.proofs.sections.read_clauses.Reads as read-clauses-reads
 use Rattle.envelopes.proofs.reading.from_targets.Reads as from-targets-reads
 use Rattle.envelopes.proofs.reading.refused_envelope.Reads as refused-envelope-reads
 

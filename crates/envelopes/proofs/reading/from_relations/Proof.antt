@@ -4,7 +4,7 @@ use Rattle.envelopes.proofs.reading.from_relations.Statement.{statement
 use Rattle.envelopes.proofs.reading.from_relations.Tie as tie
 use Rattle.envelopes.proofs.reading.from_relations.Reads as reads
 use Rattle.envelopes.proofs.reading.from_relations.Lts as lts
-use Rattle.envelopes.proofs.envelope.read_relations.Reads as read-relations-reads
+use Rattle.envelopes.proofs.sections.read_relations.Reads as read-relations-reads
 use Rattle.envelopes.proofs.reading.from_clauses.Reads as from-clauses-reads
 use Rattle.envelopes.proofs.reading.refused_envelope.Reads as refused-envelope-reads
 

@@ -5,7 +5,7 @@ use Rattle.envelopes.proofs.reading.from_sizes.Statement.{statement}
 use Rattle.envelopes.proofs.reading.from_sizes.Tie as tie
 use Rattle.envelopes.proofs.reading.from_sizes.Reads as reads
 use Rattle.envelopes.proofs.reading.from_sizes.Lts as lts
-use Rattle.envelopes.proofs.envelope.read_sizes.Reads as read-sizes-reads
+use Rattle.envelopes.proofs.sections.read_sizes.Reads as read-sizes-reads
 use Rattle.envelopes.proofs.reading.from_relations.Reads as from-relations-reads
 use Rattle.envelopes.proofs.reading.refused_envelope.Reads as refused-envelope-reads
 

@@ -4,7 +4,7 @@ use Rattle.envelopes.proofs.reading.from_targets.Statement.{statement}
 use Rattle.envelopes.proofs.reading.from_targets.Tie as tie
 use Rattle.envelopes.proofs.reading.from_targets.Reads as reads
 use Rattle.envelopes.proofs.reading.from_targets.Lts as lts
-use Rattle.envelopes.proofs.envelope.read_targets.Reads as read-targets-reads
+use Rattle.envelopes.proofs.sections.read_targets.Reads as read-targets-reads
 use Rattle.envelopes.proofs.reading.at_end.Reads as at-end-reads
 use Rattle.envelopes.proofs.reading.refused_envelope.Reads as refused-envelope-reads
 

@@ -6,7 +6,7 @@ use Rattle.envelopes.proofs.reading.read_envelope.Statement.{statement}
 use Rattle.envelopes.proofs.reading.read_envelope.Tie as tie
 use Rattle.envelopes.proofs.reading.read_envelope.Reads as reads
 use Rattle.envelopes.proofs.reading.read_envelope.Lts as lts
-use Rattle.envelopes.proofs.envelope.no_envelope.Reads as no-envelope-reads
+use Rattle.contents.proofs.envelope.no_envelope.Reads as no-envelope-reads
 use Rattle.envelopes.proofs.reading.from_sizes.Reads as from-sizes-reads
 use Rattle.envelopes.proofs.reading.refused_envelope.Reads as refused-envelope-reads
 use Rattle.fields.proofs.numbers.read_head.Reads as read-head-reads

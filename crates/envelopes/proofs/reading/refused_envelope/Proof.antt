@@ -4,7 +4,7 @@ use Rattle.envelopes.proofs.reading.refused_envelope.Statement.{stateme
 use Rattle.envelopes.proofs.reading.refused_envelope.Tie as tie
 use Rattle.envelopes.proofs.reading.refused_envelope.Reads as reads
 use Rattle.envelopes.proofs.reading.refused_envelope.Lts as lts
-use Rattle.envelopes.proofs.envelope.no_envelope.Reads as no-envelope-reads
+use Rattle.contents.proofs.envelope.no_envelope.Reads as no-envelope-reads
 
 no-envelope-requires : tie.Need-no-envelope-requires
 no-envelope-requires c κs = search needs

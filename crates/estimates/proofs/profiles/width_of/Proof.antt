@@ -6,7 +6,7 @@ use Rattle.estimates.proofs.profiles.width_of.Statement.{statement}
 use Rattle.estimates.proofs.profiles.width_of.Tie as tie
 use Rattle.estimates.proofs.profiles.width_of.Reads as reads
 use Rattle.estimates.proofs.profiles.width_of.Lts as lts
-use Rattle.envelopes.proofs.kept.kept_columns.Reads as kept-columns-reads
+use Rattle.contents.proofs.kept.kept_columns.Reads as kept-columns-reads
 use Rattle.estimates.proofs.profiles.column_of.Reads as column-of-reads
 
 abbrev Inv-loop : tie.InvT-loop

@@ -4,7 +4,7 @@ use Rattle.estimates.proofs.sites.held_assembly.Statement.{statement}
 use Rattle.estimates.proofs.sites.held_assembly.Tie as tie
 use Rattle.estimates.proofs.sites.held_assembly.Reads as reads
 use Rattle.estimates.proofs.sites.held_assembly.Lts as lts
-use Rattle.envelopes.proofs.sites.holds_relation.Reads as holds-relation-reads
+use Rattle.contents.proofs.sites.holds_relation.Reads as holds-relation-reads
 use Rattle.estimates.proofs.costs.assembly_at.Reads as assembly-at-reads
 
 -- src/sites.rt:21:8

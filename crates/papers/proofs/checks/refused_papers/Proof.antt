@@ -4,7 +4,7 @@ use Rattle.papers.proofs.checks.refused_papers.Statement.{statement}
 use Rattle.papers.proofs.checks.refused_papers.Tie as tie
 use Rattle.papers.proofs.checks.refused_papers.Reads as reads
 use Rattle.papers.proofs.checks.refused_papers.Lts as lts
-use Rattle.envelopes.proofs.envelope.no_envelope.Reads as no-envelope-reads
+use Rattle.contents.proofs.envelope.no_envelope.Reads as no-envelope-reads
 use Rattle.papers.proofs.programs.no_program.Reads as no-program-reads
 
 -- src/checks.rt:24:9

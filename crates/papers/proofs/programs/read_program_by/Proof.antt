@@ -5,7 +5,7 @@ use Rattle.papers.proofs.programs.read_program_by.Statement.{statement}
 use Rattle.papers.proofs.programs.read_program_by.Tie as tie
 use Rattle.papers.proofs.programs.read_program_by.Reads as reads
 use Rattle.papers.proofs.programs.read_program_by.Lts as lts
-use Rattle.envelopes.proofs.sites.holds_relation.Reads as holds-relation-reads
+use Rattle.contents.proofs.sites.holds_relation.Reads as holds-relation-reads
 use Rattle.fields.proofs.numbers.number_at.Reads as number-at-reads
 use Rattle.fields.proofs.numbers.read_head.Reads as read-head-reads
 use Rattle.papers.proofs.programs.from_count.Reads as from-count-reads

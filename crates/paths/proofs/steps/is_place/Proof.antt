@@ -4,7 +4,7 @@ use Rattle.paths.proofs.steps.is_place.Statement.{statement}
 use Rattle.paths.proofs.steps.is_place.Tie as tie
 use Rattle.paths.proofs.steps.is_place.Reads as reads
 use Rattle.paths.proofs.steps.is_place.Lts as lts
-use Rattle.envelopes.proofs.parts.columns_in.Reads as columns-in-reads
+use Rattle.contents.proofs.parts.columns_in.Reads as columns-in-reads
 use Rattle.ground.proofs.used.in_use.Reads as in-use-reads
 
 in-use-requires : tie.Need-in-use-requires

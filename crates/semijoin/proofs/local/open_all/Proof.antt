@@ -1,4 +1,4 @@
-use Rattle.envelopes.specs.Parts.{relationCount}
+use Rattle.contents.specs.Parts.{relationCount}
 use Prim.Native.Nat.{_<_, _-_}
 use mathlib.Core.Bool.{false}
 use lib.ListN.{getD}

@@ -7,7 +7,7 @@ use Rattle.semijoin.proofs.offsets.extent_of.Statement.{statement}
 use Rattle.semijoin.proofs.offsets.extent_of.Tie as tie
 use Rattle.semijoin.proofs.offsets.extent_of.Reads as reads
 use Rattle.semijoin.proofs.offsets.extent_of.Lts as lts
-use Rattle.envelopes.proofs.parts.columns_in.Reads as columns-in-reads
+use Rattle.contents.proofs.parts.columns_in.Reads as columns-in-reads
 use Rattle.ground.proofs.used.in_use.Reads as in-use-reads
 use Rattle.semijoin.proofs.offsets.count_in.Reads as count-in-reads
 

@@ -1,10 +1,10 @@
-use Rattle.envelopes.proofs.SiteLaws.{at-none, at-site}
+use Rattle.contents.proofs.SiteLaws.{at-none, at-site}
 use borrow.Author.Needs.{needs}
 use Rattle.station.proofs.ends.is_here.Statement.{statement}
 use Rattle.station.proofs.ends.is_here.Tie as tie
 use Rattle.station.proofs.ends.is_here.Reads as reads
 use Rattle.station.proofs.ends.is_here.Lts as lts
-use Rattle.envelopes.proofs.sites.site_of.Reads as site-of-reads
+use Rattle.contents.proofs.sites.site_of.Reads as site-of-reads
 use Rattle.ground.proofs.used.in_use.Reads as in-use-reads
 
 -- src/ends.rt:119:8

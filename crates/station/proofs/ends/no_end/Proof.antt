@@ -3,7 +3,7 @@ use Rattle.station.proofs.ends.no_end.Statement.{statement}
 use Rattle.station.proofs.ends.no_end.Tie as tie
 use Rattle.station.proofs.ends.no_end.Reads as reads
 use Rattle.station.proofs.ends.no_end.Lts as lts
-use Rattle.envelopes.proofs.envelope.no_envelope.Reads as no-envelope-reads
+use Rattle.contents.proofs.envelope.no_envelope.Reads as no-envelope-reads
 use Rattle.station.proofs.ends.no_program.Reads as no-program-reads
 
 -- src/ends.rt:50:9

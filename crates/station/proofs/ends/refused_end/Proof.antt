@@ -4,7 +4,7 @@ use Rattle.station.proofs.ends.refused_end.Statement.{statement}
 use Rattle.station.proofs.ends.refused_end.Tie as tie
 use Rattle.station.proofs.ends.refused_end.Reads as reads
 use Rattle.station.proofs.ends.refused_end.Lts as lts
-use Rattle.envelopes.proofs.envelope.no_envelope.Reads as no-envelope-reads
+use Rattle.contents.proofs.envelope.no_envelope.Reads as no-envelope-reads
 use Rattle.station.proofs.ends.no_program.Reads as no-program-reads
 
 -- src/ends.rt:68:9
