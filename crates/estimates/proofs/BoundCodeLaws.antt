@@ -1,7 +1,6 @@
 -- The numbers of a profile of an envelope that was taken have a bound in every place of the arrays, also in those that no
 -- column has: such an envelope holds zeros there.
 use mathlib.Core.Path.{_≡_, sym, ap, _∙_, subst}
-use mathlib.Core.List.{List, map}
 use Prim.Native.Nat.{ℕ, _-_, _/_, _%_, _≤_, zero-le}
 use native.Mathlib.Nat.{le-trans}
 use native.Mathlib.Omega.{arith}
@@ -18,7 +17,7 @@ use Rattle.contents.specs.declared.envelope.Envelope.{Envelope}
 use Rattle.envelopes.proofs.TidyLaws.{tidy-relations}
 use Rattle.estimates.specs.Profile.{columnOf, given}
 use Rattle.estimates.specs.Ready.{Ready}
-use Rattle.estimates.specs.Candidates.{Bounded}
+use Rattle.estimates.specs.Ready.{Bounded}
 use Rattle.estimates.specs.declared.profiles.Profile.{Profile}
 use Rattle.estimates.specs.declared.costs.Costs.{Costs}
 use Rattle.estimates.proofs.ProfileLaws.{Inside, getD-every, rows-most}

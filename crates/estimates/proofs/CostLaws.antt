@@ -27,10 +27,11 @@ use Rattle.paths.proofs.LabelLaws.{in-place, columns-few}
 use Rattle.paths.proofs.StepLaws.{legal-step}
 use Rattle.estimates.specs.Profile.{columnOf, widthOf, rowsOf, rowsAfter, benefit}
 use Rattle.estimates.specs.Costs.{plainCosts, priced, stepCost, assemblyAt}
-use Rattle.estimates.specs.Choice.{Kind, afterAll, total}
-use Rattle.estimates.specs.Plan.{kindOf}
+use Rattle.estimates.specs.Kind.{afterAll, total}
+use Rattle.estimates.specs.Estimate.{kindOf}
 use Rattle.estimates.specs.declared.profiles.Profile.{Profile}
 use Rattle.estimates.specs.declared.costs.Costs.{Costs}
+use Rattle.estimates.proofs.KindLaws.{good-after, total-good}
 use Rattle.estimates.proofs.ProfileLaws.{Inside, getD-every, column-within, rows-most, count-most, step-inside}
 
 -- ---- general
@@ -38,19 +39,6 @@ use Rattle.estimates.proofs.ProfileLaws.{Inside, getD-every, column-wit
 sum-most : {A : Type 0} (f : A → ℕ) (b : ℕ) (l : List A) → ((x : A) → List·Memᴰ x l → f x ≤ b) → sum (map f l) ≤ b * length l
 sum-most f b [] h = zero-le
 sum-most f b (x ∷ l) h = omega (arith, h x (List·Memᴰ·head refl), sum-most f b l (λ y m. h y (List·Memᴰ·tail m)))
-
--- over any kind of estimate: what every step leaves as it is, and what bounds it gives
-module _ {P S : Type 0} (k : Kind P S) (Good : P → Type 0) (Fine : S → Type 0)
-    (stays : (p : P) (s : S) → Good p → Fine s → Good (k .after p s)) where
-  good-after : (p : P) (ss : List S) → Good p → Every Fine ss → Good (afterAll k p ss)
-  good-after p [] g h = g
-  good-after p (s ∷ ss) g h = good-after (k .after p s) ss (stays p s g (h .0)) (h .1)
-
-  total-good : (b c site : ℕ) → ((p : P) (s : S) → Good p → Fine s → k .cost p s ≤ b) → ((p : P) → Good p → k .assembly p site ≤ c)
-      → (p : P) (ss : List S) → Good p → Every Fine ss → total k p site ss ≤ b * length ss + c
-  total-good b c site f a p [] g h = omega (arith, a p g)
-  total-good b c site f a p (s ∷ ss) g h =
-      omega (arith, f p s g (h .0), total-good b c site f a (k .after p s) ss (stays p s g (h .0)) (h .1))
 
 -- ---- widths and benefits
 

@@ -1,14 +1,14 @@
 -- The laws that the code of the estimator goes by: what holds at the head of the loop over the steps, and what each return
 -- answers.
-use mathlib.Core.Path.{_≡_, refl, sym, ap, _∙_}
+use mathlib.Core.Path.{_≡_, sym, ap, _∙_}
 use mathlib.Core.List.{List, [], _∷_, _++_, append-nil}
 use Prim.Native.Nat.{ℕ, _+_, _≤_, _<_}
 use native.Mathlib.Omega.{arith}
-use lib.ListN.{length, getD, take, drop, set, replicate}
+use lib.ListN.{getD, take, drop, set, replicate}
 use lib.Seq.{append-snoc}
-use Rattle.ground.specs.Lists.{padded, sum}
+use Rattle.ground.specs.Lists.{sum}
 use Rattle.ground.specs.Outcome.{Outcome, next, nextOf, verdictOf}
-use Rattle.ground.specs.Outcome.Outcome.{good, bad}
+use Rattle.ground.specs.Outcome.Outcome.{good}
 use Rattle.ground.specs.declared.Verdict.the-variants.{Taken, Refused}
 use Rattle.ground.proofs.CollectingLaws.{Collecting, collecting-start, collecting-push}
 use Rattle.envelopes.specs.Rules.{Within, tidy}
@@ -25,17 +25,17 @@ use Rattle.papers.proofs.ProgramCodeLaws.{program-taken, program-refused}
 use Rattle.papers.proofs.ExactPrograms.{program-bytes, program-exact}
 use Rattle.estimates.specs.Profile.{benefit, afterStep, localProfile}
 use Rattle.estimates.specs.Costs.{plainCosts, stepCost, assemblyAt}
-use Rattle.estimates.specs.Choice.{afterAll, costs, total}
-use Rattle.estimates.specs.Plan.{kindOf, gone, line, linesOf, estimated, noEstimate, estimateOf}
+use Rattle.estimates.specs.Kind.{afterAll, costs, total}
+use Rattle.estimates.specs.Estimate.{kindOf, gone, line, linesOf, estimated, noEstimate, estimateOf}
 use Rattle.estimates.specs.Ready.{Ready}
-use Rattle.estimates.specs.Candidates.{Bounded, Shrinks}
+use Rattle.estimates.specs.Ready.{Bounded, Shrinks}
 use Rattle.estimates.specs.declared.profiles.Profile.{Profile}
 use Rattle.estimates.specs.declared.costs.Costs.{Costs}
-use Rattle.estimates.specs.declared.plans.Line.{Line}
-use Rattle.estimates.specs.declared.plans.Estimate.{Estimate}
+use Rattle.estimates.specs.declared.lines.Line.{Line}
+use Rattle.estimates.specs.declared.lines.Estimate.{Estimate}
 use Rattle.estimates.specs.declared.totals.Gone.{Gone}
 use Rattle.estimates.proofs.CostLaws.{assembly-most, plain-most}
-use Rattle.estimates.proofs.ChoiceLaws.{total-is}
+use Rattle.estimates.proofs.KindLaws.{total-is}
 use Rattle.estimates.proofs.BoundCodeLaws.{inside-bounded}
 use Rattle.estimates.proofs.TotalCodeLaws.{Spending, spending-start, spending-more, spending-done, step-shrinks, rest, none-left}
 

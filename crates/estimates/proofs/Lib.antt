@@ -1,29 +1,16 @@
--- The laws of the estimates and the planner, and the figures of 01.
-pub mod Figures
+-- The laws of the estimates; those whose name has Code in it are what the functions go by.
 pub mod DivisionLaws
 pub mod ShortLaws
 pub mod ProfileLaws
+pub mod KindLaws
 pub mod CostLaws
-pub mod SublistLaws
-pub mod OrderedLaws
-pub mod SiftingLaws
-pub mod ChoosingLaws
-pub mod ChoiceLaws
-pub mod DropLaws
-pub mod PlanLaws
+pub mod EstimateLaws
 pub mod DivisionCodeLaws
 pub mod TableCodeLaws
 pub mod ProfileCodeLaws
 pub mod StepCodeLaws
 pub mod CostCodeLaws
 pub mod BoundCodeLaws
-pub mod SiteCodeLaws
-pub mod CandidateCodeLaws
-pub mod ChoiceCodeLaws
 pub mod LocalCodeLaws
 pub mod TotalCodeLaws
 pub mod EstimatorCodeLaws
-pub mod NumberCodeLaws
-pub mod OrderCodeLaws
-pub mod DropCodeLaws
-pub mod PlannerCodeLaws

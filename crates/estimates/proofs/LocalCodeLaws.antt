@@ -2,8 +2,8 @@
 -- heads of the two loops.
 use mathlib.Core.Path.{_≡_, refl, sym, ap, _∙_}
 use mathlib.Core.Bool.{Bool, true, false}
-use mathlib.Core.List.{List, [], _∷_, map}
-use Prim.Native.Nat.{ℕ, zero, suc, _+_, _-_, _/_, _%_, _≤_, _<_, min, zero-le}
+use mathlib.Core.List.{List, [], _∷_}
+use Prim.Native.Nat.{ℕ, zero, suc, _+_, _-_, _/_, _%_, _≤_, _<_, zero-le}
 use native.Mathlib.Nat.{le-trans, sub-zero}
 use native.Mathlib.Numerals.{add-one}
 use native.Mathlib.Omega.{arith}
@@ -11,7 +11,7 @@ use lib.ListN.{length, getD, set, take, drop, drop-of-length-le}
 use lib.Seq.{drop-cons, length-take-le}
 use lib.Dec.{eqb}
 use Rattle.ground.specs.Tests.{pick}
-use Rattle.ground.specs.Lists.{below, numbersFrom, padded}
+use Rattle.ground.specs.Lists.{below, numbersFrom}
 use Rattle.ground.proofs.UsedLaws.{used-inside}
 use Rattle.ground.proofs.CountLaws.{left-suc, left-none}
 use Rattle.ground.proofs.EveryLaws.{every-mapped, every-of}
@@ -28,7 +28,6 @@ use Rattle.paths.specs.declared.implied.Selected.{Selected}
 use Rattle.paths.specs.declared.implied.Selections.{Selections}
 use Rattle.paths.proofs.ImpliedLaws.{selections-few, selections-by-labels}
 use Rattle.estimates.specs.Division.{over}
-use Rattle.estimates.specs.Short.{Y}
 use Rattle.estimates.specs.Profile.{rowsOf, countOf, given, shrunk, afterSelection, afterSelections, afterRelations, localProfile}
 use Rattle.estimates.specs.declared.profiles.Profile.{Profile}
 use Rattle.estimates.proofs.ShortLaws.{Y-most}

@@ -5,7 +5,7 @@ use Prim.Native.Nat.{ℕ, _+_, _*_, _/_, _%_, _≤_, _<_, min}
 use native.Mathlib.Omega.{arith}
 use borrow.Author.Tests.{eq-eqb, ne-eqb}
 use lib.Dec.{eqb}
-use lib.ListN.{length, getD, take, set, List·getD-eq-default}
+use lib.ListN.{length, getD, set, List·getD-eq-default}
 use Rattle.ground.specs.Tests.{pick}
 use Rattle.ground.specs.Lists.{below, sum, padded}
 use Rattle.ground.proofs.CountLaws.{split}
@@ -24,7 +24,7 @@ use Rattle.contents.specs.declared.envelope.Envelope.{Envelope}
 use Rattle.contents.specs.declared.kept.Columns.{Columns}
 use Rattle.contents.proofs.PartLaws.{relation-inside, relation-outside}
 use Rattle.estimates.specs.Short.{Y}
-use Rattle.estimates.specs.Profile.{columnOf, domainSize, widthOf, rowsOf, countOf, given, shrunk}
+use Rattle.estimates.specs.Profile.{columnOf, domainSize, widthOf, rowsOf, given, shrunk}
 use Rattle.estimates.specs.declared.profiles.Profile.{Profile}
 use Rattle.estimates.proofs.TableCodeLaws.{Table, table-done, Summing, summing-start, summing-more, summing-done}
 

@@ -1,10 +1,9 @@
 -- The laws that the code of selections and steps goes by: what each return answers, and that its numbers have a bound.
-use mathlib.Core.Path.{_≡_, sym, ap, ap₂, _∙_}
+use mathlib.Core.Path.{_≡_, _∙_}
 use Prim.Native.Nat.{ℕ, _*_, _≤_, zero-le}
-use native.Mathlib.Nat.{le-trans, mul-le-mul, mul-le-mul-left, le-refl}
+use native.Mathlib.Nat.{mul-le-mul, mul-le-mul-left}
 use native.Mathlib.Omega.{arith}
 use borrow.Author.Tests.{eq-eqb, ne-eqb}
-use lib.ListN.{getD}
 use Rattle.ground.proofs.CountLaws.{split}
 use Rattle.entries.specs.declared.places.Place.{Place}
 use Rattle.contents.specs.declared.envelope.Envelope.{Envelope}

@@ -1,6 +1,6 @@
 -- The laws that the code of totals goes by: what holds at the head of a loop over the steps of a program, and what each
 -- return answers.
-use mathlib.Core.Path.{_≡_, refl, sym, ap, _∙_}
+use mathlib.Core.Path.{_≡_, sym, ap, _∙_}
 use mathlib.Core.Bool.{true}
 use mathlib.Core.List.{List, [], _∷_}
 use Prim.Native.Nat.{ℕ, _+_, _*_, _≤_, _<_}
@@ -19,15 +19,15 @@ use Rattle.paths.specs.declared.steps.Step.{Step}
 use Rattle.papers.specs.declared.programs.Program.{Program}
 use Rattle.estimates.specs.Profile.{widthOf, rowsOf, rowsAfter, afterStep, localProfile}
 use Rattle.estimates.specs.Costs.{stepCost, assemblyAt}
-use Rattle.estimates.specs.Choice.{afterAll, costs, total}
-use Rattle.estimates.specs.Plan.{kindOf, gone}
+use Rattle.estimates.specs.Kind.{afterAll, costs, total}
+use Rattle.estimates.specs.Estimate.{kindOf, gone}
 use Rattle.estimates.specs.Ready.{Ready}
 use Rattle.estimates.specs.declared.profiles.Profile.{Profile}
 use Rattle.estimates.specs.declared.costs.Costs.{Costs}
 use Rattle.estimates.specs.declared.totals.Gone.{Gone}
 use Rattle.estimates.proofs.ProfileLaws.{Inside, local-inside, rows-most, rows-after, step-inside}
 use Rattle.estimates.proofs.CostLaws.{width-most, cost-most, total-most, after-inside}
-use Rattle.estimates.proofs.ChoiceLaws.{total-is}
+use Rattle.estimates.proofs.KindLaws.{total-is}
 use Rattle.estimates.proofs.BoundCodeLaws.{counts-most}
 use Rattle.estimates.proofs.LocalCodeLaws.{Low}
 

@@ -1,7 +1,7 @@
 -- "Cost: s times the width of S.B, or 0 on one site." "Assembly at a site: rows times width, summed over relations
 -- elsewhere." A cost is a size times the price from the sender's site to the receiver's: 0 on one site, 1 elsewhere.
 use Prim.Native.Nat.{ℕ, _+_, _*_, _/_, _%_}
-use mathlib.Core.List.{List, map}
+use mathlib.Core.List.{map}
 use lib.ListN.{getD}
 use lib.Dec.{eqb}
 use Rattle.ground.specs.Tests.{pick}

@@ -1,13 +1,10 @@
--- 01's "Estimates" and "The planner". Division and Short have the two formulas that everything rounds and shrinks by;
--- Profile what operations do to it; Costs what transfers cost; Choice the planner's five points over any kind of estimate;
--- Plan the estimate of 01 put in; Ready what functions behind the checks go by; Candidates and Numbers steps and their
--- numbers as the code holds them.
+-- 01's "Estimates". Division and Short have the two formulas that everything rounds and shrinks by; Profile what operations
+-- do to it; Costs what transfers cost; Kind what a kind of estimate says and the total by it; Estimate the formulas of 01
+-- put in, and what a given program is expected to cost; Ready what functions behind the checks go by.
 pub mod Division
 pub mod Short
 pub mod Profile
 pub mod Costs
-pub mod Choice
-pub mod Plan
+pub mod Kind
+pub mod Estimate
 pub mod Ready
-pub mod Candidates
-pub mod Numbers

@@ -82,7 +82,7 @@ fn sent(costs: Costs, envelope: Envelope, profile: Profile, site: u8, relation: 
 }
 
 // What assembly at a site costs.
-pub(crate) fn assembly_at(costs: Costs, envelope: Envelope, profile: Profile, site: u8) -> u64
+pub fn assembly_at(costs: Costs, envelope: Envelope, profile: Profile, site: u8) -> u64
     requires { ⌜ ((i : ℕ) → getD (costs .prices) i 0 ≤ 1) × ((i : ℕ) → getD (profile .rows) i 0 ≤ 1000000) × ((i : ℕ) → widthOf envelope i ≤ 2040) ⌝ }
     ensures { λ r. ⌜ r ≡ assemblyAt costs envelope profile site ⌝ }
 {

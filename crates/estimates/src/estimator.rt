@@ -1,7 +1,7 @@
 // The estimator: what each step of a program brings and costs, and the program in all.
 use crate::costs::Costs;
-use crate::plans::Estimate;
-use crate::plans::Line;
+use crate::lines::Estimate;
+use crate::lines::Line;
 use crate::profiles::Profile;
 use contents::envelope::Envelope;
 use ground::Verdict;
@@ -10,26 +10,15 @@ use paths::steps::Step;
 ghost use mathlib.Core.Path.{_≡_};
 ghost use Rattle.envelopes.specs.Rules.{Within, tidy};
 ghost use Rattle.envelopes.specs.Envelope.{checkEnvelope};
-ghost use Rattle.papers.specs.Programs.{noStep, stepsOf, checkProgram, Acceptable};
+ghost use Rattle.papers.specs.Programs.{stepsOf, checkProgram, Acceptable};
 ghost use Rattle.estimates.specs.Profile.{benefit};
 ghost use Rattle.estimates.specs.Costs.{plainCosts, stepCost};
-ghost use Rattle.estimates.specs.Plan.{line, estimated, noEstimate, estimateOf};
+ghost use Rattle.estimates.specs.Estimate.{line, estimated, noEstimate, estimateOf};
 ghost use Rattle.estimates.specs.Ready.{Ready};
-ghost use Rattle.estimates.specs.Candidates.{Bounded, Shrinks};
-
-pub(crate) fn no_line() -> Line
-    ensures { λ r. ⌜ r ≡ line noStep 0 0 ⌝ }
-{
-    let step = crate::candidates::no_step();
-    Line {
-        step: step,
-        benefit: 0,
-        cost: 0,
-    }
-}
+ghost use Rattle.estimates.specs.Ready.{Bounded, Shrinks};
 
 // A step with its benefit and its cost.
-fn line_of(costs: Costs, envelope: Envelope, profile: Profile, step: Step) -> Line
+pub fn line_of(costs: Costs, envelope: Envelope, profile: Profile, step: Step) -> Line
     requires { ⌜ Bounded costs envelope profile × Shrinks envelope profile step ⌝ }
     ensures { λ r. ⌜ r ≡ line step (benefit envelope profile step) (stepCost costs envelope profile step) ⌝ }
 {
@@ -43,18 +32,13 @@ fn line_of(costs: Costs, envelope: Envelope, profile: Profile, step: Step) -> Li
 }
 
 // A program that was accepted, with what it is expected to cost at its site.
-pub(crate) fn estimated(
-    costs: Costs,
-    envelope: Envelope,
-    local: Profile,
-    program: Program,
-) -> Estimate
+pub fn estimated(costs: Costs, envelope: Envelope, local: Profile, program: Program) -> Estimate
     requires { ⌜ Ready costs envelope local × Acceptable envelope program ⌝ }
     ensures { λ r. ⌜ r ≡ estimated costs envelope (stepsOf program) (program .site) ⌝ }
 {
     let steps = program.steps;
     let end = program.count as usize;
-    let mut lines = [no_line(); 156];
+    let mut lines = [crate::lines::no_line(); 156];
     let mut now = local;
     let mut spent: u64 = 0;
     let mut i: usize = 0;
@@ -82,7 +66,7 @@ fn refused(number: u8, position: usize) -> Estimate
     Estimate {
         verdict: Verdict::Refused { number, position },
         count: 0,
-        lines: [no_line(); 156],
+        lines: [crate::lines::no_line(); 156],
         assembly: 0,
         total: 0,
     }

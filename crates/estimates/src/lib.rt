@@ -1,15 +1,8 @@
-// Estimates and the planner: what a step is expected to do and cost, and which steps to take.
-mod candidates;
-mod choice;
+// Estimates: what operations are expected to leave and to cost, and what a given program is expected to cost.
 pub mod costs;
 mod division;
-mod drops;
 pub mod estimator;
-mod locals;
-mod numbers;
-mod order;
-pub mod planner;
-pub mod plans;
+pub mod lines;
+pub mod locals;
 pub mod profiles;
-mod sites;
-mod totals;
+pub mod totals;

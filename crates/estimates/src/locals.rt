@@ -34,7 +34,7 @@ fn after_selections(envelope: Envelope, labels: Labels, profile: Profile, relati
 }
 
 // For an envelope that was taken.
-pub(crate) fn local_profile(envelope: Envelope) -> Profile
+pub fn local_profile(envelope: Envelope) -> Profile
     requires { ⌜ Within envelope × (tidy envelope ≡ envelope) ⌝ }
     ensures { λ r. ⌜ r ≡ localProfile envelope ⌝ }
 {

@@ -267,7 +267,7 @@ impl Profile {
     }
 
     // What a step leaves. Its rows do not grow.
-    pub(crate) fn after_step(self, envelope: Envelope, step: Step) -> Profile
+    pub fn after_step(self, envelope: Envelope, step: Step) -> Profile
         requires { ⌜ ((i : ℕ) → getD (self .rows) i 0 ≤ 1000000) × ((i : ℕ) → getD (self .counts) i 0 ≤ 1000000) × (rowsAfter envelope self step ≤ 1000000) ⌝ }
         ensures { λ r. ⌜ r ≡ afterStep envelope self step ⌝ }
     {

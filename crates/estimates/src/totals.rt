@@ -4,11 +4,10 @@ use crate::profiles::Profile;
 use contents::envelope::Envelope;
 use papers::programs::Program;
 ghost use mathlib.Core.Path.{_≡_};
-ghost use Rattle.ground.specs.Lists.{sum};
 ghost use Rattle.papers.specs.Programs.{stepsOf, Acceptable};
 ghost use Rattle.estimates.specs.Profile.{localProfile};
-ghost use Rattle.estimates.specs.Choice.{afterAll, costs, total};
-ghost use Rattle.estimates.specs.Plan.{kindOf, gone};
+ghost use Rattle.estimates.specs.Kind.{costs, total};
+ghost use Rattle.estimates.specs.Estimate.{kindOf, gone};
 ghost use Rattle.estimates.specs.Ready.{Ready};
 
 // What steps leave and what they cost.
@@ -41,7 +40,7 @@ pub(crate) fn go_through(costs: Costs, envelope: Envelope, local: Profile, progr
 }
 
 // The total of a program at its site.
-pub(crate) fn total_of(costs: Costs, envelope: Envelope, local: Profile, program: Program) -> u64
+pub fn total_of(costs: Costs, envelope: Envelope, local: Profile, program: Program) -> u64
     requires { ⌜ Ready costs envelope local × Acceptable envelope program ⌝ }
     ensures { λ r. ⌜ r ≡ total (kindOf costs envelope) (localProfile envelope) (program .site) (stepsOf program) ⌝ }
 {

@@ -16,10 +16,11 @@ use Rattle.estimates.specs.Division.{over}
 use Rattle.estimates.specs.Short.{Y}
 use Rattle.estimates.specs.Profile.{columnOf, domainSize, widthOf, given, shrunk, afterSelection, rowsAfter, countAfter, afterStep, benefit, localProfile}
 use Rattle.estimates.specs.Costs.{plainCosts, priced, stepCost, assemblyAt}
-use Rattle.estimates.specs.Choice.{total}
-use Rattle.estimates.specs.Plan.{sameStep, siteFor, greedySteps, dropsAt, reduced, planned, linesOf, estimated, planFor, noPlan, planOf}
+use Rattle.estimates.specs.Kind.{total}
+use Rattle.estimates.specs.Estimate.{sameStep, linesOf, estimated}
+use Rattle.planner.specs.Plan.{siteFor, greedySteps, dropsAt, reduced, planned, planFor, noPlan, planOf}
 use Rattle.ground.specs.Outcome.Outcome.{good, bad}
-use Rattle.estimates.proofs.Figures.{E1, fallen}
+use Rattle.planner.proofs.Figures.{E1, fallen}
 use Rattle.ground.specs.Outcome.{numbered}
 use Rattle.ground.specs.Bytes.{littleEnd, bytesOf}
 use Rattle.fields.specs.Numbers.{numberAt, numberThat, marked, markOf, versionAt, headOf}

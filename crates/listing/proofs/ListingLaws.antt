@@ -9,8 +9,8 @@ use Rattle.ground.specs.Lists.{each}
 use Rattle.ground.specs.declared.Verdict.the-variants.{Taken, Refused}
 use Rattle.fields.specs.Puts.{Puts, Fronts}
 use Rattle.paths.specs.declared.steps.Step.{Step}
-use Rattle.estimates.specs.declared.plans.Line.{Line}
-use Rattle.estimates.specs.declared.plans.Plan.{Plan}
+use Rattle.estimates.specs.declared.lines.Line.{Line}
+use Rattle.planner.specs.declared.plans.Plan.{Plan}
 use Rattle.listing.specs.Text.{text, decimal, labelled}
 use Rattle.listing.specs.Listing.{heading, stepText, stepLine, lastLine, refusedLine, planLines, listing}
 use Rattle.listing.proofs.TextLaws.{both-put, three-put, four-put}

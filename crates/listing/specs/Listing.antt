@@ -6,8 +6,8 @@ use lib.ListN.{take}
 use Rattle.ground.specs.Lists.{each}
 use Rattle.ground.specs.declared.Verdict.the-variants.{Taken, Refused}
 use Rattle.paths.specs.declared.steps.Step.{Step}
-use Rattle.estimates.specs.declared.plans.Line.{Line}
-use Rattle.estimates.specs.declared.plans.Plan.{Plan}
+use Rattle.estimates.specs.declared.lines.Line.{Line}
+use Rattle.planner.specs.declared.plans.Plan.{Plan}
 use Rattle.listing.specs.Text.{text, decimal, labelled}
 
 abbrev pub heading : List ℕ

@@ -1,15 +1,15 @@
 // The lines that are printed of a plan: its heading, its steps, its last line; or the refusal alone.
 use crate::texts;
-use estimates::plans::Line;
-use estimates::plans::Plan;
+use estimates::lines::Line;
 use ground::Verdict;
 use paths::steps::Step;
+use planner::plans::Plan;
 ghost use Prim.Native.Nat.{_≤_};
 ghost use lib.ListN.{take};
 ghost use Rattle.ground.specs.Lists.{each};
 ghost use Rattle.fields.specs.Puts.{Puts, Fronts};
 ghost use Rattle.envelopes.specs.Envelope.{readEnvelope};
-ghost use Rattle.estimates.specs.Plan.{planOf};
+ghost use Rattle.planner.specs.Plan.{planOf};
 ghost use Rattle.listing.specs.Listing.{stepText, stepLine, lastLine, planLines, refusedLine, listing};
 
 fn put_step(out: &mut [u8], at: usize, step: Step) -> usize
@@ -94,6 +94,6 @@ pub fn put_listing(out: &mut [u8], plan: Plan) -> usize
 pub fn list_paper(out: &mut [u8], paper: &[u8]) -> usize
     ensures { λ r. ⌜ Fronts (now (out .entry)) 19804 (listing (planOf (readEnvelope (now (paper .entry))))) r (now (out .exit)) ⌝ }
 {
-    let plan = estimates::planner::plan_paper(paper);
+    let plan = planner::planner::plan_paper(paper);
     put_listing(out, plan)
 }

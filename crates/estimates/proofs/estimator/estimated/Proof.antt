@@ -1,5 +1,5 @@
 use Rattle.estimates.proofs.CostLaws.{width-most}
-use Rattle.estimates.specs.declared.plans.Line.{Line}
+use Rattle.estimates.specs.declared.lines.Line.{Line}
 use mathlib.Core.Path.{ap}
 use Prim.Native.Nat.{_-_}
 use Rattle.estimates.proofs.TotalCodeLaws.{cost-few, rows-low, counts-low, step-few}
@@ -12,7 +12,7 @@ use Rattle.estimates.proofs.estimator.estimated.Reads as reads
 use Rattle.estimates.proofs.estimator.estimated.Lts as lts
 use Rattle.estimates.proofs.costs.assembly_at.Reads as assembly-at-reads
 use Rattle.estimates.proofs.estimator.line_of.Reads as line-of-reads
-use Rattle.estimates.proofs.estimator.no_line.Reads as no-line-reads
+use Rattle.estimates.proofs.lines.no_line.Reads as no-line-reads
 use Rattle.estimates.proofs.profiles.Profile.after_step.Reads as after-step-reads
 
 abbrev Inv-loop : tie.InvT-loop

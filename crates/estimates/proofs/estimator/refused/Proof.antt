@@ -4,7 +4,7 @@ use Rattle.estimates.proofs.estimator.refused.Statement.{statement}
 use Rattle.estimates.proofs.estimator.refused.Tie as tie
 use Rattle.estimates.proofs.estimator.refused.Reads as reads
 use Rattle.estimates.proofs.estimator.refused.Lts as lts
-use Rattle.estimates.proofs.estimator.no_line.Reads as no-line-reads
+use Rattle.estimates.proofs.lines.no_line.Reads as no-line-reads
 
 -- src/estimator.rt:90:17
 no-line-requires : tie.Need-no-line-requires

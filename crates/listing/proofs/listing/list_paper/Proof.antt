@@ -4,7 +4,7 @@ use Rattle.listing.proofs.listing.list_paper.Statement.{statement}
 use Rattle.listing.proofs.listing.list_paper.Tie as tie
 use Rattle.listing.proofs.listing.list_paper.Reads as reads
 use Rattle.listing.proofs.listing.list_paper.Lts as lts
-use Rattle.estimates.proofs.planner.plan_paper.Reads as plan-paper-reads
+use Rattle.planner.proofs.planner.plan_paper.Reads as plan-paper-reads
 use Rattle.listing.proofs.listing.put_listing.Reads as put-listing-reads
 
 -- src/listing.rt:97:9

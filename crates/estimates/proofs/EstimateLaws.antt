@@ -1,0 +1,80 @@
+-- The estimate of a given program: its lines, and that the total is the sum of what the lines say and of assembly.
+use mathlib.Core.Path.{_≡_, refl, ap, subst}
+use mathlib.Core.Bool.{true, _&&_}
+use mathlib.Core.List.{List, [], _∷_, map}
+use mathlib.Core.Logic.{_↔_}
+use Prim.Native.Nat.{ℕ, zero, suc, _+_, _≤_, _<_}
+use native.Mathlib.Nat.{le-of-suc-le-suc, not-suc-le-zero}
+use lib.ListN.{length, getD, take}
+use Rattle.ground.specs.Lists.{sum}
+use Rattle.ground.proofs.TestLaws.{and-left, and-right, and-both}
+use Rattle.ground.proofs.CollectingLaws.{padded-length, padded-take}
+use Rattle.entries.specs.Places.{samePlace}
+use Rattle.contents.specs.declared.envelope.Envelope.{Envelope}
+use Rattle.papers.specs.Programs.{noStep}
+use Rattle.paths.specs.declared.steps.Step.{Step}
+use Rattle.paths.proofs.PathLaws.{same-place, place-same}
+use Rattle.estimates.specs.Profile.{afterStep, benefit, localProfile}
+use Rattle.estimates.specs.Costs.{stepCost}
+use Rattle.estimates.specs.Kind.{afterAll, costs}
+use Rattle.estimates.specs.Estimate.{sameStep, kindOf, line, linesOf, costsIn, estimated}
+use Rattle.estimates.specs.declared.profiles.Profile.{Profile}
+use Rattle.estimates.specs.declared.costs.Costs.{Costs}
+use Rattle.estimates.specs.declared.lines.Line.{Line}
+use Rattle.estimates.proofs.KindLaws.{total-is}
+
+-- steps are the same exactly where they are equal
+pub step-tells : (s t : Step) → (sameStep s t ≡ true) ↔ (s ≡ t)
+unfolding sameStep
+step-tells s t = (equal, same)
+  where
+    both : s .left ≡ t .left → s .right ≡ t .right → s ≡ t
+    both p q = λ i. record { left = p i; right = q i }
+
+    equal : (samePlace (s .left) (t .left) && samePlace (s .right) (t .right)) ≡ true → s ≡ t
+    equal h =
+        both (same-place _ _ (and-left _ _ h)) (same-place _ _ (and-right (samePlace (s .left) (t .left)) _ h))
+
+    same : s ≡ t → (samePlace (s .left) (t .left) && samePlace (s .right) (t .right)) ≡ true
+    same e =
+        subst (λ (u : Step). (samePlace (s .left) (u .left) && samePlace (s .right) (u .right)) ≡ true) e
+        (and-both (place-same (s .left)) (place-same (s .right)))
+
+module _ (k : Costs) (e : Envelope) where
+  pub lines-length : (p : Profile) (ss : List Step) → length (linesOf k e p ss) ≡ length ss
+  unfolding linesOf
+  lines-length p [] = refl
+  lines-length p (s ∷ ss) = ap suc (lines-length (afterStep e p s) ss)
+
+  -- each step with its benefit and cost in the profile that the steps before it leave
+  pub lines-at : (p : Profile) (ss : List Step) (i : ℕ) (z : Line) → i < length ss
+      → getD (linesOf k e p ss) i z
+      ≡ line (getD ss i noStep) (benefit e (afterAll (kindOf k e) p (take i ss)) (getD ss i noStep))
+      (stepCost k e (afterAll (kindOf k e) p (take i ss)) (getD ss i noStep))
+  unfolding linesOf
+  lines-at p [] i z h = absurd (not-suc-le-zero h)
+  lines-at p (s ∷ ss) zero z h = refl
+  lines-at p (s ∷ ss) (suc i) z h = lines-at (afterStep e p s) ss i z (le-of-suc-le-suc h)
+
+  pub lines-costs : (p : Profile) (ss : List Step) → costsIn (linesOf k e p ss) ≡ costs (kindOf k e) p ss
+  unfolding linesOf
+  lines-costs p [] = refl
+  lines-costs p (s ∷ ss) = ap (λ (l : List ℕ). stepCost k e p s ∷ l) (lines-costs (afterStep e p s) ss)
+
+  module _ (ss : List Step) (site : ℕ) where
+    pub estimated-lines : take (estimated k e ss site .count) (estimated k e ss site .lines) ≡ linesOf k e (localProfile e) ss
+    unfolding estimated
+    estimated-lines =
+        rw (lines-length (localProfile e) ss) at (padded-take 156 (line noStep 0 0) (linesOf k e (localProfile e) ss))
+
+    pub estimated-long : length ss ≤ 156 → length (estimated k e ss site .lines) ≡ 156
+    unfolding estimated
+    estimated-long h = padded-length 156 (line noStep 0 0) (linesOf k e (localProfile e) ss) (rw (lines-length (localProfile e) ss) h)
+
+    whole : estimated k e ss site .total ≡ sum (costs (kindOf k e) (localProfile e) ss) + estimated k e ss site .assembly
+    unfolding estimated
+    whole = total-is (kindOf k e) (localProfile e) site ss
+
+    pub estimated-total : estimated k e ss site .total
+        ≡ sum (map (λ (l : Line). l .cost) (take (estimated k e ss site .count) (estimated k e ss site .lines))) + estimated k e ss site .assembly
+    estimated-total = rw (estimated-lines, lines-costs (localProfile e) ss) whole

@@ -1,0 +1,78 @@
+-- The estimate of a given program: each step's benefit and cost, assembly and the total, with the formulas of 01 put in for
+-- the kind of estimate.
+use mathlib.Core.Bool.{Bool, _&&_}
+use mathlib.Core.List.{List, [], _∷_, map}
+use Prim.Native.Nat.{ℕ}
+use lib.ListN.{length, replicate}
+use Rattle.ground.specs.Lists.{padded, sum}
+use Rattle.ground.specs.Outcome.{Outcome, verdictOf}
+use Rattle.ground.specs.Outcome.Outcome.{good, bad}
+use Rattle.entries.specs.Places.{samePlace}
+use Rattle.contents.specs.declared.envelope.Envelope.{Envelope}
+use Rattle.papers.specs.Programs.{noStep, stepsOf}
+use Rattle.paths.specs.declared.steps.Step.{Step}
+use Rattle.papers.specs.declared.programs.Program.{Program}
+use Rattle.estimates.specs.Profile.{benefit, afterStep, localProfile}
+use Rattle.estimates.specs.Costs.{plainCosts, stepCost, assemblyAt}
+use Rattle.estimates.specs.Kind.{Kind, afterAll, costs, total}
+use Rattle.estimates.specs.declared.profiles.Profile.{Profile}
+use Rattle.estimates.specs.declared.costs.Costs.{Costs}
+use Rattle.estimates.specs.declared.totals.Gone.{Gone}
+use Rattle.estimates.specs.declared.lines.Line.{Line}
+use Rattle.estimates.specs.declared.lines.Estimate.{Estimate}
+
+-- ---- the kind of estimate
+
+unfoldable pub sameStep : Step → Step → Bool
+sameStep s t = samePlace (s .left) (t .left) && samePlace (s .right) (t .right)
+
+abbrev pub kindOf : Costs → Envelope → Kind Profile Step
+kindOf k e =
+    record {
+      benefit = benefit e;
+      cost = stepCost k e;
+      after = afterStep e;
+      assembly = assemblyAt k e;
+      same = sameStep;
+    }
+
+-- what the steps of a program leave behind local operations, and what they cost
+unfoldable pub gone : Costs → Envelope → List Step → Gone
+gone k e ss =
+    record { profile = afterAll (kindOf k e) (localProfile e) ss; spent = sum (costs (kindOf k e) (localProfile e) ss) }
+
+-- ---- a program at a site
+
+abbrev pub line : Step → ℕ → ℕ → Line
+line s b c = record { step = s; benefit = b; cost = c }
+
+unfoldable pub linesOf : Costs → Envelope → Profile → List Step → List Line
+linesOf k e p [] = []
+linesOf k e p (s ∷ ss) = line s (benefit e p s) (stepCost k e p s) ∷ linesOf k e (afterStep e p s) ss
+
+abbrev pub costsIn : List Line → List ℕ
+costsIn lines = map (λ (l : Line). l .cost) lines
+
+-- a program at a site, with what it is expected to cost
+unfoldable pub estimated : Costs → Envelope → List Step → ℕ → Estimate
+estimated k e ss site =
+    let p = localProfile e in
+    record {
+      verdict = verdictOf (good e 0);
+      count = length ss;
+      lines = padded 156 (line noStep 0 0) (linesOf k e p ss);
+      assembly = assemblyAt k e (afterAll (kindOf k e) p ss) site;
+      total = total (kindOf k e) p site ss;
+    }
+
+-- ---- of an envelope and a program that are structs: they are checked first
+
+-- a refusal, with nothing beside it
+unfoldable pub noEstimate : ℕ → ℕ → Estimate
+noEstimate n p =
+    record { verdict = verdictOf {A = Envelope} (bad n p); count = 0; lines = replicate 156 (line noStep 0 0); assembly = 0; total = 0 }
+
+unfoldable pub estimateOf : Outcome Envelope → Outcome Program → Estimate
+estimateOf (bad n p) q = noEstimate n p
+estimateOf (good e p) (bad n q) = noEstimate n q
+estimateOf (good e p) (good f q) = estimated plainCosts e (stepsOf f) (f .site)

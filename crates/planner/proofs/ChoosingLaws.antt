@@ -1,0 +1,62 @@
+-- A loop that finds the first of greatest gain: it keeps what it has, with its gain, unless the next gains more. A gain of 0
+-- says that it has none.
+use mathlib.Core.Path.{_≡_, refl, ap, _∙_}
+use mathlib.Core.List.{List}
+use mathlib.Core.Logic.{_⊎_, inl, inr}
+use mathlib.Core.Option.{Option, none, some}
+use Prim.Native.Nat.{ℕ, _+_, _≤_, _<_}
+use native.Mathlib.Numerals.{add-one}
+use native.Mathlib.Omega.{arith}
+use borrow.Author.Tests.{lt-ltb, le-ltb}
+use lib.ListN.{length, getD, take}
+use lib.Seq.{take-suc, take-all}
+use Rattle.ground.specs.Choice.{firstOfGreatest}
+use Rattle.ground.proofs.ChoiceLaws.{orLater, greatest-later}
+
+module _ {A : Type 0} (gain : A → ℕ) where
+  abbrev Held : Option A → A → ℕ → Type 0
+  Held o best most = ((o ≡ none) × (most ≡ 0)) ⊎ ((o ≡ some best) × (0 < most) × (most ≡ gain best))
+
+  held-more : (o : Option A) (best : A) (most : ℕ) → Held o best most → (x : A) → most < gain x → Held (orLater gain o x) x (gain x)
+  held-more o best most (inl (e, z)) x h = inr (rw (e, lt-ltb 0 (gain x) (omega arith)), omega arith, refl)
+  held-more o best most (inr (e, _, g)) x h = inr (rw (e, lt-ltb (gain best) (gain x) (omega arith)), omega arith, refl)
+
+  held-less : (o : Option A) (best : A) (most : ℕ) → Held o best most → (x : A) → gain x ≤ most → Held (orLater gain o x) best most
+  held-less o best most (inl (e, z)) x h = inl (rw (e, le-ltb 0 (gain x) (omega arith)), z)
+  held-less o best most (inr (e, l, g)) x h = inr (rw (e, le-ltb (gain best) (gain x) (omega arith)), l, g)
+
+  held-none : (o : Option A) (best : A) (most : ℕ) → Held o best most → most ≡ 0 → o ≡ none
+  held-none o best most (inl (e, z)) h = e
+  held-none o best most (inr (e, l, g)) h = absurd (omega arith)
+
+  held-some : (o : Option A) (best : A) (most : ℕ) → Held o best most → (most ≡ 0 → ⊥) → o ≡ some best
+  held-some o best most (inl (e, z)) h = absurd (h z)
+  held-some o best most (inr (e, l, g)) h = e
+
+-- of the list l the first i are looked at
+pub record Choosing {A : Type 0} (gain : A → ℕ) (l : List A) (i : ℕ) (best : A) (most : ℕ) : Type 0 where
+  pub within : i ≤ length l
+  pub held : Held gain (firstOfGreatest gain (take i l)) best most
+
+module _ {A : Type 0} (gain : A → ℕ) (l : List A) where
+  pub choosing-start : (z : A) → Choosing gain l 0 z 0
+  choosing-start z = record { within = omega arith; held = inl (refl, refl) }
+
+  module _ (i : ℕ) (best : A) (most : ℕ) (c : Choosing gain l i best most) where
+    module _ (d : A) (h : i < length l) where
+      one-more : firstOfGreatest gain (take (i + 1) l) ≡ orLater gain (firstOfGreatest gain (take i l)) (getD l i d)
+      one-more =
+          ap (λ (n : ℕ). firstOfGreatest gain (take n l)) (add-one i)
+          ∙ ap (firstOfGreatest gain) (take-suc l i d h) ∙ greatest-later gain (take i l) (getD l i d)
+
+      pub choosing-more : most < gain (getD l i d) → Choosing gain l (i + 1) (getD l i d) (gain (getD l i d))
+      choosing-more k = record { within = omega arith; held = rw one-more (held-more gain _ best most (c .held) (getD l i d) k) }
+
+      pub choosing-less : gain (getD l i d) ≤ most → Choosing gain l (i + 1) best most
+      choosing-less k = record { within = omega arith; held = rw one-more (held-less gain _ best most (c .held) (getD l i d) k) }
+
+    pub choosing-none : length l ≤ i → most ≡ 0 → firstOfGreatest gain l ≡ none
+    choosing-none h z = rw (take-all i l h) at (held-none gain (firstOfGreatest gain (take i l)) best most (c .held) z)
+
+    pub choosing-some : length l ≤ i → (most ≡ 0 → ⊥) → firstOfGreatest gain l ≡ some best
+    choosing-some h z = rw (take-all i l h) at (held-some gain (firstOfGreatest gain (take i l)) best most (c .held) z)
