@@ -16,11 +16,11 @@ use Rattle.ground.proofs.CombinationLaws.{combinations-from, combinations-lengt
 use Rattle.contents.specs.Parts.{relationCount, clausesOf, targetsOf}
 use Rattle.contents.specs.declared.envelope.Envelope.{Envelope}
 use Rattle.paths.specs.Meaning.{Row, Table, meetsAll, targetRow, answerOn, answerRows}
-use Rattle.semijoin.specs.Offsets.{countIn, rowsAt, marksAt}
-use Rattle.semijoin.specs.Marks.{isKept, keptOf, keptRows}
+use Rattle.tables.specs.Offsets.{countIn, rowsAt, marksAt}
+use Rattle.tables.specs.Rows.{isKept, keptOf, keptRows}
 use Rattle.semijoin.specs.Promise.{rowOf, keptAt, SameRows, NeededIn, Needed, Covers}
-use Rattle.semijoin.proofs.OffsetLaws.{count-outside, rowsAt-length, tables-are}
-use Rattle.semijoin.proofs.MarkLaws.{kept-test}
+use Rattle.tables.proofs.OffsetLaws.{count-outside, rowsAt-length, tables-are}
+use Rattle.tables.proofs.RowLaws.{kept-test}
 
 -- ---- a list for each number
 

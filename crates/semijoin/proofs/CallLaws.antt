@@ -6,9 +6,8 @@ use mathlib.Core.Logic.{_↔_, _⊎_, inl, inr}
 use mathlib.Core.List.{List, [], _∷_, _++_, List·Memᴰ}
 use Prim.Native.Nat.{ℕ, _+_, _≤_, _<_}
 use lib.ListN.{length}
-use lib.Seq.{sets}
 use lib.Dec.{leb}
-use borrow.Author.Tests.{leb-true, le-leb, lt-ltb, le-ltb}
+use borrow.Author.Tests.{leb-true, le-leb}
 use Rattle.ground.specs.Rising.{Rises}
 use Rattle.ground.specs.Outcome.{Outcome, next}
 use Rattle.ground.specs.Outcome.Outcome.{good, bad}
@@ -26,20 +25,21 @@ use Rattle.papers.specs.Programs.{Acceptable}
 use Rattle.papers.specs.Checks.{papersOf}
 use Rattle.papers.specs.declared.programs.Program.{Program}
 use Rattle.papers.specs.declared.checks.Papers.{Papers}
-use Rattle.semijoin.specs.Offsets.{countIn, rowCount, rowsAt, marksAt}
-use Rattle.semijoin.specs.Shape.{shaped, marksTests, columnTests}
-use Rattle.semijoin.specs.Rising.{among, isRising}
+use Rattle.tables.specs.Offsets.{rowCount, rowsAt, marksAt, extentOf}
+use Rattle.tables.specs.Shape.{shaped, marksTests, columnTests}
+use Rattle.tables.specs.Rising.{isRising}
 use Rattle.semijoin.specs.Marks.{reducedBy, reduceOutcome, reducedOf, marksAfter}
-use Rattle.semijoin.specs.Values.{valuesOf, risingValues, occursIn, roomTest, valuesOutcome, gatheredOf, gatheredIn}
+use Rattle.tables.specs.Values.{occursIn}
 use Rattle.semijoin.specs.Local.{openedIn, openOutcome}
 use Rattle.semijoin.specs.Run.{runMarks, runChecked, runOutcome}
-use Rattle.semijoin.specs.Extents.{extentOf, rowsOver, marksOver, wordOver, keptOver}
+use Rattle.tables.specs.Rows.{wordOver, keptOver}
 use Rattle.semijoin.specs.Promise.{wordOf, keptAt}
-use Rattle.semijoin.specs.declared.offsets.Extent.{Extent}
+use Rattle.tables.specs.declared.offsets.Extent.{Extent}
 use Rattle.semijoin.specs.declared.marks.Reduced.the-variants as r
-use Rattle.semijoin.specs.declared.values.Gathered.the-variants as g
-use Rattle.semijoin.proofs.JudgedLaws.{refusal-listed}
-use Rattle.semijoin.proofs.RisingLaws.{rising-exact}
+use Rattle.tables.specs.declared.values.Gathered.the-variants as g
+use Rattle.tables.proofs.JudgedLaws.{refusal-listed}
+use Rattle.tables.proofs.RisingLaws.{rising-exact}
+use Rattle.tables.proofs.CallLaws.{first-shape, then-marks, then-rest}
 use Rattle.semijoin.proofs.PromiseLaws.{promise}
 use Rattle.semijoin.proofs.RunLaws.{run-outcome}
 use Rattle.semijoin.proofs.TidyLaws.{tidy-shaped, tidy-row-count, tidy-opened}
@@ -54,19 +54,6 @@ module _ (marks : List ℕ) where
   pub marks-set : (after : List ℕ) (p : ℕ) → marksAfter marks (good after p) ≡ after
   unfolding marksAfter
   marks-set after p = refl
-
--- ---- a call that begins with 10, 11: of any tests and effect behind them
-
-module _ {A : Type 0} (e : Envelope) (words : List ℕ) (n : ℕ) (ts : List Test) (o : Outcome A) where
-  pub first-shape : shaped e words ≡ false → judged (marksTests e words n ++ ts) o ≡ bad wrongShape 0
-  first-shape s = rw s
-
-  module _ (s : shaped e words ≡ true) where
-    pub then-marks : n < rowCount e words → judged (marksTests e words n ++ ts) o ≡ bad tooShort 0
-    then-marks h = rw (s, lt-ltb n (rowCount e words) h)
-
-    pub then-rest : rowCount e words ≤ n → judged (marksTests e words n ++ ts) o ≡ judged ts o
-    then-rest h = rw (s, le-ltb n (rowCount e words) h)
 
 -- a call that checks its papers first refuses by their refusal, or by 10 or 11 at 0
 papers-first : {A B : Type 0} (o : Outcome A) (f : A → Envelope) (effect : A → B) (words : List ℕ) (n m q : ℕ)
@@ -109,74 +96,8 @@ module _ (e : Envelope) (words : List ℕ) (here : ℕ → Bool) (marks : List �
       pub open-taken : rowCount e words ≤ length marks → openOutcome e words here marks ≡ good (openedIn e words here marks) 0
       open-taken h = open-judged ∙ then-rest e words (length marks) [] (good (openedIn e words here marks) 0) s h
 
--- ---- the values of a column
-
-module _ (e : Envelope) (a : Place) (words marks : List ℕ) (start : ℕ) (out : List ℕ) where
-  abbrev found : List ℕ
-  found = risingValues e words marks a
-
-  abbrev valuesTests : List Test
-  valuesTests = test (not (isPlace e a)) notOurs 0 ∷ roomTest (risingValues e words marks a) start out ∷ []
-
-  -- it refuses by 10, 11, 14, at 0
-  pub values-number : (n p : ℕ) → valuesOutcome e a words marks start out ≡ bad n p
-      → List·Memᴰ n (wrongShape ∷ tooShort ∷ notOurs ∷ tooShort ∷ []) × (p ≡ 0)
-  unfolding valuesOutcome
-  values-number n p h =
-      refusal-listed (columnTests e a words (length marks) ++ roomTest found start out ∷ []) found 0 n p (refl, (refl, (refl, (refl, tt)))) h
-
-  pub values-shapeless : shaped e words ≡ false → valuesOutcome e a words marks start out ≡ bad wrongShape 0
-  unfolding valuesOutcome
-  values-shapeless s = first-shape e words (length marks) valuesTests (good found 0) s
-
-  module _ (s : shaped e words ≡ true) where
-    pub values-unmarked : length marks < rowCount e words → valuesOutcome e a words marks start out ≡ bad tooShort 0
-    unfolding valuesOutcome
-    values-unmarked h = then-marks e words (length marks) valuesTests (good found 0) s h
-
-    module _ (h : rowCount e words ≤ length marks) where
-      pub values-nowhere : isPlace e a ≡ false → valuesOutcome e a words marks start out ≡ bad notOurs 0
-      unfolding valuesOutcome
-      values-nowhere c = then-rest e words (length marks) valuesTests (good found 0) s h ∙ rw c
-
-      module _ (c : isPlace e a ≡ true) where
-        pub values-narrow : length out < start + length (risingValues e words marks a)
-            → valuesOutcome e a words marks start out ≡ bad tooShort 0
-        unfolding valuesOutcome
-        values-narrow k =
-            then-rest e words (length marks) valuesTests (good found 0) s h ∙ rw (c, lt-ltb (length out) (start + length found) k)
-
-        module _ (k : start + length (risingValues e words marks a) ≤ length out) where
-          pub values-taken : valuesOutcome e a words marks start out ≡ good (risingValues e words marks a) 0
-          unfolding valuesOutcome
-          values-taken =
-              then-rest e words (length marks) valuesTests (good found 0) s h ∙ rw (c, le-ltb (length out) (start + length found) k)
-
-          pub values-length : gatheredOf (valuesOutcome e a words marks start out) ≡ g.Length (length (risingValues e words marks a))
-          unfolding gatheredOf
-          values-length = rw values-taken
-
-          pub values-buffer : gatheredIn start out (valuesOutcome e a words marks start out) ≡ sets out start (risingValues e words marks a)
-          unfolding gatheredIn
-          values-buffer = rw values-taken
-
-  -- a refusal, as it is answered
-  module _ (n p : ℕ) (h : valuesOutcome e a words marks start out ≡ bad n p) where
-    pub values-refused : gatheredOf (valuesOutcome e a words marks start out) ≡ g.Refused n p
-    unfolding gatheredOf
-    values-refused = rw h
-
-    pub values-stay : gatheredIn start out (valuesOutcome e a words marks start out) ≡ out
-    unfolding gatheredIn
-    values-stay = rw h
-
 -- a value occurs exactly where tables, marks and column are right and some kept row has it
 module _ (e : Envelope) (a : Place) (words marks : List ℕ) (x : ℕ) where
-  pub occurs-there : shaped e words ≡ true → rowCount e words ≤ length marks → isPlace e a ≡ true
-      → occursIn e a words marks x ≡ among (valuesOf e words marks a) x
-  unfolding occursIn
-  occurs-there s h c = rw (s, le-leb (rowCount e words) (length marks) h, c)
-
   pub occurs-exact : (occursIn e a words marks x ≡ true)
       ↔ ((shaped e words ≡ true) × (rowCount e words ≤ length marks) × (isPlace e a ≡ true)
       × ((i : ℕ) × (keptAt e words marks (a .relation) i ≡ true) × (wordOf e words a i ≡ x)))
@@ -294,12 +215,9 @@ none-left e a words marks i = promise e .exactly words [] marks a i ∙ go (kept
 
 module _ (e : Envelope) (words : List ℕ) (x : Extent) (i : ℕ) where
   pub word-by : (a : Place) → x ≡ extentOf e words (a .relation) → (w : ℕ) → w ≡ wordOver x words i (a .column) → w ≡ wordOf e words a i
-  unfolding rowsOver rowsAt
+  unfolding rowsAt
   word-by a f w g = g ∙ ap (λ (y : Extent). wordOver y words i (a .column)) f
 
   pub kept-by : (r : ℕ) → x ≡ extentOf e words r → (marks : List ℕ) (b : Bool) → b ≡ keptOver x marks i → b ≡ keptAt e words marks r i
-  unfolding marksOver marksAt
+  unfolding marksAt
   kept-by r f marks b g = g ∙ ap (λ (y : Extent). keptOver y marks i) f
-
-pub rows-by : (e : Envelope) (words : List ℕ) (x : Extent) (r : ℕ) → x ≡ extentOf e words r → x .rows ≡ countIn e words r
-rows-by e words x r f = ap (λ (y : Extent). y .rows) f

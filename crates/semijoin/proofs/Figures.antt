@@ -26,11 +26,12 @@ use Rattle.paths.specs.Implied.{constantsOf, selectionsBy, equalitiesBy}
 use Rattle.papers.specs.Programs.{stepsOf, programWith, stepAt, endedProgram, stepsThen, programBy, readProgram, programBytes, checkProgram}
 use Rattle.papers.specs.Checks.{papersOf}
 use Rattle.paths.specs.Meaning.{Row, rowsIn, tablesIn, tablesOf, meetsAll, answerOn, answerRows, answerWords}
-use Rattle.semijoin.specs.Offsets.{countIn, wordsBefore, rowsBefore, firstWord, rowsAt, marksAt}
-use Rattle.semijoin.specs.Shape.{shaped}
-use Rattle.semijoin.specs.Marks.{keptOf, keptRows, sieved, reducedBy, removedOf, removedBy, marksAfter}
-use Rattle.semijoin.specs.Values.{valuesOf, risingValues}
-use Rattle.semijoin.specs.Local.{passesBy, passes, openedAt, opened}
+use Rattle.tables.specs.Offsets.{countIn, wordsBefore, rowsBefore, firstWord, rowsAt, marksAt, rowsOver, marksOver}
+use Rattle.tables.specs.Shape.{shaped}
+use Rattle.tables.specs.Rows.{keptOf, keptRows}
+use Rattle.semijoin.specs.Marks.{sieved, reducedBy, removedOf, removedBy, marksAfter, sievedOver, removedOver}
+use Rattle.tables.specs.Values.{valuesOf, risingValues, valuesOver}
+use Rattle.semijoin.specs.Local.{passesBy, passes, openedAt, opened, openingMark}
 use Rattle.semijoin.specs.Run.{stepped, runMarks, runChecked, runOutcome}
 
 -- a column of a domain, of width 1, with so many distinct values
@@ -98,5 +99,5 @@ figures =
     ∷ []
 
 pub figures-hold : map (λ (f : Figure). f .got) figures ≡ map (λ (f : Figure). f .want) figures
-unfolding numbered padded numbersFrom littleEnd bytesOf firstFrom insert rising numberAt numberThat marked markOf versionAt headOf samePlace placeAt placeBytes columnsOf columnAt columnBytes columnsThen relationAt relationBytes domainOf selectionAt joined joinAt clauseAt kindBytes sizesOf relationsOf clausesOf targetsOf columnsIn withVersion withSizes withRelations withClauses withTargets siteOf isAt holds names kept keptColumns firstBare ended filled listInto targetsThen clausesThen relationsThen sizesThen envelopeFrom envelopeBytes checkEnvelope edges onPath isPlace legalBy stepBytes constantsOf selectionsBy equalitiesBy stepsOf stepAt endedProgram stepsThen programBy readProgram programBytes checkProgram papersOf rowsIn tablesIn tablesOf meetsAll answerOn answerRows countIn wordsBefore rowsBefore firstWord rowsAt marksAt keptOf keptRows sieved reducedBy removedOf removedBy valuesOf risingValues stepped nextOf shaped passesBy passes openedAt opened runMarks runChecked runOutcome marksAfter
+unfolding numbered padded numbersFrom littleEnd bytesOf firstFrom insert rising numberAt numberThat marked markOf versionAt headOf samePlace placeAt placeBytes columnsOf columnAt columnBytes columnsThen relationAt relationBytes domainOf selectionAt joined joinAt clauseAt kindBytes sizesOf relationsOf clausesOf targetsOf columnsIn withVersion withSizes withRelations withClauses withTargets siteOf isAt holds names kept keptColumns firstBare ended filled listInto targetsThen clausesThen relationsThen sizesThen envelopeFrom envelopeBytes checkEnvelope edges onPath isPlace legalBy stepBytes constantsOf selectionsBy equalitiesBy stepsOf stepAt endedProgram stepsThen programBy readProgram programBytes checkProgram papersOf rowsIn tablesIn tablesOf meetsAll answerOn answerRows countIn wordsBefore rowsBefore firstWord rowsOver marksOver rowsAt marksAt keptOf keptRows sieved sievedOver reducedBy removedOf removedOver removedBy valuesOver valuesOf risingValues stepped nextOf shaped passesBy passes openingMark openedAt opened runMarks runChecked runOutcome marksAfter
 figures-hold = refl

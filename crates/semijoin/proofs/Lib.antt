@@ -1,10 +1,5 @@
--- The laws of tables and marks: where things lie, what a step does to marks, what it promises, and that the answer is kept.
-pub mod PartLaws
-pub mod SumLaws
-pub mod OffsetLaws
-pub mod ShapeLaws
-pub mod JudgedLaws
-pub mod RisingLaws
+-- The laws of the semi-join: what a step does to marks, what it promises, and that the answer is kept; and what each function
+-- answers.
 pub mod MarkLaws
 pub mod ReducedLaws
 pub mod LocalLaws
@@ -14,11 +9,7 @@ pub mod TidyLaws
 pub mod RunLaws
 pub mod CallLaws
 pub mod Figures
-pub mod OffsetCodeLaws
-pub mod RisingCodeLaws
-pub mod ExtentCodeLaws
-pub mod RowCodeLaws
-pub mod ValueCodeLaws
+pub mod HalvingCodeLaws
 pub mod SieveCodeLaws
 pub mod LocalCodeLaws
 pub mod CallCodeLaws

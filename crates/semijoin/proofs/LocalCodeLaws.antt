@@ -2,7 +2,7 @@
 use mathlib.Core.Path.{_≡_, refl, sym, ap, _∙_}
 use mathlib.Core.Bool.{Bool, true, false, not, _&&_, _||_}
 use mathlib.Core.List.{List, [], _∷_, map}
-use Prim.Native.Nat.{ℕ, suc, _+_, _*_, _≤_, _<_, min}
+use Prim.Native.Nat.{ℕ, suc, _+_, _≤_, _<_, min}
 use native.Mathlib.Nat.{add-zero, zero-add}
 use native.Mathlib.Numerals.{add-one}
 use native.Mathlib.Omega.{arith}
@@ -12,7 +12,6 @@ use lib.Dec.{eqb}
 use borrow.Author.Tests.{not-true, not-false}
 use Rattle.ground.specs.Tests.{pick}
 use Rattle.ground.specs.Lists.{all, any, each, below, padded, numbersFrom}
-use Rattle.ground.proofs.UsedLaws.{used-outside}
 use Rattle.ground.proofs.NumbersLaws.{each-below}
 use Rattle.ground.proofs.PuttingLaws.{sets-append}
 use Rattle.contents.specs.Parts.{relationCount}
@@ -27,21 +26,11 @@ use Rattle.paths.specs.declared.implied.Selections.{Selections}
 use Rattle.paths.specs.declared.implied.Equal.{Equal}
 use Rattle.paths.specs.declared.implied.Equalities.{Equalities}
 use Rattle.paths.proofs.ImpliedLaws.{selections-by-labels, equalities-by-labels}
-use Rattle.semijoin.specs.Offsets.{rowsAt}
-use Rattle.semijoin.specs.Local.{passesBy, passes, openedAt, opened}
-use Rattle.semijoin.specs.Extents.{extentOf, rowsOver, openingMark}
-use Rattle.semijoin.specs.declared.offsets.Extent.{Extent}
-use Rattle.semijoin.proofs.OffsetLaws.{rows-at}
+use Rattle.tables.specs.Offsets.{rowsAt, extentOf, rowsOver}
+use Rattle.semijoin.specs.Local.{passesBy, passes, openedAt, opened, openingMark}
+use Rattle.tables.specs.declared.offsets.Extent.{Extent}
 use Rattle.semijoin.proofs.LocalLaws.{marksOf, opened-before}
-use Rattle.semijoin.proofs.ExtentCodeLaws.{rows-over}
-
--- a column past the last reads as 0
-pub word-outside : (x : Extent) (words : List ℕ) (i c : ℕ) → i < x .rows → x .columns ≤ c → 0 ≡ wordIn (getD (rowsOver x words) i []) c
-unfolding rowsOver
-word-outside x words i c h k =
-    sym
-    (ap (λ (row : Row). wordIn row c) (rows-at (x .columns) (x .rows) (drop (x .word) words) i h)
-    ∙ used-outside (drop (i * x .columns) (drop (x .word) words)) (x .columns) c 0 k)
+use Rattle.tables.proofs.RowLaws.{rows-over}
 
 -- ---- a row passes where it breaks none
 
@@ -137,7 +126,7 @@ module _ (x : Extent) (mark : Row → ℕ) (words before : List ℕ) where
 
 module _ (e : Envelope) (words : List ℕ) (here : ℕ → Bool) where
   opened-at : (r : ℕ) → map (openingMark (here r) (impliedSelections e r) (impliedEqualities e r)) (rowsOver (extentOf e words r) words) ≡ marksOf e words here r
-  unfolding openedAt openingMark passesBy passes rowsOver rowsAt
+  unfolding openedAt rowsAt
   opened-at r = refl
 
   pub record OpeningAll (before : List ℕ) (end i : ℕ) (marks : List ℕ) : Type 0 where

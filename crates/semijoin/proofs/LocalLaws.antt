@@ -24,11 +24,11 @@ use Rattle.paths.specs.Implied.{impliedSelections, impliedEqualities}
 use Rattle.paths.specs.declared.implied.Selected.{Selected}
 use Rattle.paths.specs.declared.implied.Equal.{Equal}
 use Rattle.paths.proofs.ImpliedLaws.{selection-met, equality-met}
-use Rattle.semijoin.specs.Offsets.{countIn, rowsBefore, firstMark, rowCount, rowsAt, marksAt}
-use Rattle.semijoin.specs.Local.{passesBy, passes, openedAt, opened}
-use Rattle.semijoin.specs.Marks.{isKept}
+use Rattle.tables.specs.Offsets.{countIn, rowsBefore, firstMark, rowCount, rowsAt, marksAt, marksOver}
+use Rattle.semijoin.specs.Local.{passesBy, passes, openingMark, openedAt, opened}
+use Rattle.tables.specs.Rows.{isKept}
 use Rattle.semijoin.specs.Promise.{rowOf, keptAt, Needed}
-use Rattle.semijoin.proofs.OffsetLaws.{rowsAt-length, rows-none, rows-more}
+use Rattle.tables.proofs.OffsetLaws.{rowsAt-length, rows-none, rows-more}
 
 -- a row that the answer needs passes
 pub needed-passes : (e : Envelope) (whole : List ℕ) (r : ℕ) (row : Row) → Needed e whole r row → passes e r row ≡ true
@@ -55,7 +55,7 @@ below-split n r h =
 module _ (e : Envelope) (words : List ℕ) where
   pub opened-at-length : (here : Bool) (r : ℕ) → length (openedAt e words here r) ≡ countIn e words r
   unfolding openedAt
-  opened-at-length here r = length-map (rowsAt e words r) (λ (row : Row). pick (here && passes e r row) 1 0) ∙ rowsAt-length e words r
+  opened-at-length here r = length-map (rowsAt e words r) (openingMark here (impliedSelections e r) (impliedEqualities e r)) ∙ rowsAt-length e words r
 
   module _ (here : ℕ → Bool) where
     abbrev pub marksOf : ℕ → List ℕ
@@ -94,7 +94,7 @@ module _ (e : Envelope) (words : List ℕ) where
       room = omega (arith, opened-length)
 
       pub opened-own : (r : ℕ) → r < relationCount e → marksAt e words r (sets marks 0 (opened e words here)) ≡ openedAt e words (here r) r
-      unfolding marksAt
+      unfolding marksAt marksOver
       opened-own r h =
           ap (λ (l : List ℕ). take (countIn e words r) (drop (firstMark e words r) l))
           (sets-eq (opened e words here) marks 0 room ∙ opened-parts r h rest)
@@ -112,7 +112,7 @@ module _ (e : Envelope) (words : List ℕ) where
       -- 1 where a row is here and passes, else 0; so it is kept exactly there
       pub opened-byte : (r i : ℕ) → r < relationCount e → i < countIn e words r
           → getD (marksAt e words r (sets marks 0 (opened e words here))) i 0 ≡ pick (here r && passes e r (rowOf e words r i)) 1 0
-      unfolding openedAt
+      unfolding openedAt openingMark passes
       opened-byte r i h k =
           ap (λ (ms : List ℕ). getD ms i 0) (opened-own r h)
           ∙ getD-map (λ (row : Row). pick (here r && passes e r row) 1 0) (rowsAt e words r) i [] 0 (rw (rowsAt-length e words r) k)

@@ -6,7 +6,7 @@ use Prim.Native.Nat.{ℕ, _≤_, _<_}
 use native.Mathlib.Nat.{zero-add}
 use native.Mathlib.Decide.{ℕ-discrete}
 use native.Mathlib.Omega.{arith}
-use lib.ListN.{length, getD, drop, length-map}
+use lib.ListN.{length, getD, drop}
 use lib.Seq.{length-sets}
 use lib.Dec.{eqb}
 use borrow.Author.Tests.{eqb-true, eq-eqb}
@@ -17,7 +17,7 @@ use Rattle.ground.proofs.CountLaws.{split}
 use Rattle.ground.proofs.TestLaws.{and-left, and-right, and-both}
 use Rattle.ground.proofs.ListLaws.{any-from, any-of, map-from, map-mem, mem-getD}
 use Rattle.ground.proofs.CombinationLaws.{combinations-from}
-use Rattle.ground.proofs.RisingLaws.{rising-rises, rising-length, rising-any}
+use Rattle.ground.proofs.RisingLaws.{rising-rises, rising-any}
 use Rattle.ground.proofs.UsedLaws.{used-outside}
 use Rattle.contents.specs.Parts.{relationCount}
 use Rattle.entries.specs.declared.places.Place.{Place}
@@ -27,15 +27,18 @@ use Rattle.paths.specs.Steps.{isPlace, legal}
 use Rattle.paths.specs.declared.steps.Step.{Step}
 use Rattle.paths.proofs.StepLaws.{legal-step}
 use Rattle.paths.proofs.MeaningLaws.{columns-equal}
-use Rattle.semijoin.specs.Offsets.{countIn, firstMark, rowsAt, marksAt}
-use Rattle.semijoin.specs.Rising.{among}
-use Rattle.semijoin.specs.Marks.{isKept, keptRows, sieved, reducedBy, removedBy}
-use Rattle.semijoin.specs.Values.{valuesOf, risingValues}
+use Rattle.tables.specs.Offsets.{countIn, firstMark, rowsAt, marksAt, marksOver, extentOf}
+use Rattle.tables.specs.Rising.{among}
+use Rattle.tables.specs.Rows.{isKept, keptRows}
+use Rattle.semijoin.specs.Marks.{sieved, reducedBy, removedBy}
+use Rattle.tables.specs.Values.{valuesOf, risingValues, valuesOver}
 use Rattle.semijoin.specs.Local.{opened, openedIn}
 use Rattle.semijoin.specs.Promise.{rowOf, wordOf, keptAt, SameRows, FewerRows, FewerValues, Needed, Covers, Holds, Promise}
-use Rattle.semijoin.proofs.OffsetLaws.{count-outside, rowsAt-length, table-at, tables-length}
-use Rattle.semijoin.proofs.ShapeLaws.{place-relation}
-use Rattle.semijoin.proofs.MarkLaws.{kept-mem, kept-from, kept-numbers, sieved-at, sieved-past, kept-length}
+use Rattle.tables.proofs.OffsetLaws.{count-outside, rowsAt-length, table-at, tables-length}
+use Rattle.tables.proofs.ShapeLaws.{place-relation}
+use Rattle.tables.proofs.ValueCodeLaws.{values-few}
+use Rattle.tables.proofs.RowLaws.{kept-mem, kept-from, kept-numbers}
+use Rattle.semijoin.proofs.MarkLaws.{sieved-at, sieved-past}
 use Rattle.semijoin.proofs.LocalLaws.{needed-passes, opened-byte, opened-kept, opened-past}
 use Rattle.semijoin.proofs.ReducedLaws.{reduced-length, reduced-own, reduced-byte, reduced-other, reduced-past, removed-rows, reduced-alike}
 
@@ -53,7 +56,7 @@ kept-both false m = go (isKept m)
 
 module _ (e : Envelope) where
   past-last : (words marks : List ℕ) (r i : ℕ) → countIn e words r ≤ i → getD (marksAt e words r marks) i 0 ≡ 0
-  unfolding marksAt
+  unfolding marksAt marksOver
   past-last words marks r i h = used-outside (drop (firstMark e words r) marks) (countIn e words r) i 0 h
 
   -- a row that is kept is a row
@@ -71,7 +74,7 @@ module _ (e : Envelope) where
     column row = wordIn row (b .column)
 
     values-of : (v i : ℕ) → keptAt e words marks (b .relation) i ≡ true → wordOf e words b i ≡ v → among (valuesOf e words marks b) v ≡ true
-    unfolding valuesOf keptRows column
+    unfolding valuesOf valuesOver keptRows marksAt rowsAt column
     values-of v i k w =
         any-of (λ x. eqb x v)
         (map-mem column
@@ -81,7 +84,7 @@ module _ (e : Envelope) where
 
     values-from : (v : ℕ) → among (valuesOf e words marks b) v ≡ true
         → (i : ℕ) × (keptAt e words marks (b .relation) i ≡ true) × (wordOf e words b i ≡ v)
-    unfolding valuesOf keptRows column
+    unfolding valuesOf valuesOver keptRows marksAt rowsAt column
     values-from v t =
         let (x, m, p) = any-from (λ x. eqb x v) (map column (keptRows e words marks (b .relation))) t in
         let (row, n, q) = map-from column (keptRows e words marks (b .relation)) m in
@@ -89,12 +92,8 @@ module _ (e : Envelope) where
         (i, k, ap column w ∙ sym q ∙ eqb-true x v p)
 
     rising-rows : length (risingValues e words marks b) ≤ countIn e words (b .relation)
-    unfolding risingValues valuesOf keptRows column
-    rising-rows =
-        let few : length (valuesOf e words marks b) ≤ countIn e words (b .relation) =
-        rw (length-map (keptRows e words marks (b .relation)) column, ← rowsAt-length e words (b .relation))
-        (kept-length (marksAt e words (b .relation) marks) (rowsAt e words (b .relation))) in
-        omega (arith, rising-length (valuesOf e words marks b))
+    unfolding risingValues valuesOf
+    rising-rows = values-few (extentOf e words (b .relation)) (b .column) words marks
 
     rises : Rises 0 (risingValues e words marks b)
     unfolding risingValues

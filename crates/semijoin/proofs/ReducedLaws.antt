@@ -11,11 +11,12 @@ use Rattle.ground.proofs.CountLaws.{split}
 use Rattle.contents.specs.Parts.{relationCount}
 use Rattle.entries.specs.declared.places.Place.{Place}
 use Rattle.contents.specs.declared.envelope.Envelope.{Envelope}
-use Rattle.semijoin.specs.Offsets.{countIn, firstMark, rowCount, rowsAt, marksAt}
-use Rattle.semijoin.specs.Rising.{among}
-use Rattle.semijoin.specs.Marks.{keptOf, keptRows, sieved, reducedBy, removedBy}
-use Rattle.semijoin.proofs.PartLaws.{none, part-length, part-stand, part-before, part-behind}
-use Rattle.semijoin.proofs.OffsetLaws.{count-outside, marks-end, rowsAt-length}
+use Rattle.tables.specs.Offsets.{countIn, firstMark, rowCount, rowsAt, marksAt, marksOver}
+use Rattle.tables.specs.Rising.{among}
+use Rattle.tables.specs.Rows.{keptOf, keptRows}
+use Rattle.semijoin.specs.Marks.{sieved, reducedBy, removedBy, sievedOver, removedOver}
+use Rattle.tables.proofs.PartLaws.{none, part-length, part-stand, part-before, part-behind}
+use Rattle.tables.proofs.OffsetLaws.{count-outside, marks-end, rowsAt-length}
 use Rattle.semijoin.proofs.MarkLaws.{occurs, sieved-length, sieved-at, kept-sieved, removed-kept, sieved-alike}
 
 module _ (e : Envelope) (words : List ℕ) where
@@ -23,7 +24,7 @@ module _ (e : Envelope) (words : List ℕ) where
 
   pub marks-length : (marks : List ℕ) (r : ℕ) → r < relationCount e → rowCount e words ≤ length marks
       → length (marksAt e words r marks) ≡ countIn e words r
-  unfolding marksAt
+  unfolding marksAt marksOver
   marks-length marks r h k =
       part-length (firstMark e words r) (countIn e words r) marks (omega (arith, marks-end e words r (relationCount e) h))
 
@@ -31,11 +32,11 @@ module _ (e : Envelope) (words : List ℕ) where
 
   module _ (marks : List ℕ) (a : ℕ) (new : List ℕ) (same : length new ≡ length (marksAt e words a marks)) where
     pub own-written : marksAt e words a (sets marks (firstMark e words a) new) ≡ new
-    unfolding marksAt
+    unfolding marksAt marksOver
     own-written = part-stand marks (firstMark e words a) (countIn e words a) new same
 
     pub other-stays : (r : ℕ) → (r ≡ a → ⊥) → marksAt e words r (sets marks (firstMark e words a) new) ≡ marksAt e words r marks
-    unfolding marksAt
+    unfolding marksAt marksOver
     other-stays r differ =
         split a r
         (λ h.
@@ -47,7 +48,7 @@ module _ (e : Envelope) (words : List ℕ) where
         (marks-end e words r a h))
 
     pub past-stays : drop (rowCount e words) (sets marks (firstMark e words a) new) ≡ drop (rowCount e words) marks
-    unfolding marksAt
+    unfolding marksAt marksOver
     past-stays =
         split (relationCount e) a
         (λ h. rw (none new (rw (count-outside e words a h) at same)))
@@ -65,12 +66,12 @@ module _ (e : Envelope) (words : List ℕ) where
     long = sieved-length values (a .column) (marksAt e words (a .relation) marks) (rowsAt e words (a .relation))
 
     pub reduced-length : length (reducedBy e words values a marks) ≡ length marks
-    unfolding reducedBy after
+    unfolding reducedBy sievedOver marksAt rowsAt after
     reduced-length = length-sets marks (firstMark e words (a .relation)) after
 
     pub reduced-own : marksAt e words (a .relation) (reducedBy e words values a marks)
         ≡ sieved values (a .column) (marksAt e words (a .relation) marks) (rowsAt e words (a .relation))
-    unfolding reducedBy after
+    unfolding reducedBy sievedOver marksAt rowsAt after
     reduced-own = own-written marks (a .relation) after long
 
     -- a removed row has 0, every other byte stays
@@ -83,11 +84,11 @@ module _ (e : Envelope) (words : List ℕ) where
         (rw (rowsAt-length e words (a .relation)) h)
 
     pub reduced-other : (r : ℕ) → (r ≡ a .relation → ⊥) → marksAt e words r (reducedBy e words values a marks) ≡ marksAt e words r marks
-    unfolding reducedBy after
+    unfolding reducedBy sievedOver marksAt rowsAt after
     reduced-other r differ = other-stays marks (a .relation) after long r differ
 
     pub reduced-past : drop (rowCount e words) (reducedBy e words values a marks) ≡ drop (rowCount e words) marks
-    unfolding reducedBy after
+    unfolding reducedBy sievedOver marksAt rowsAt after
     reduced-past = past-stays marks (a .relation) after long
 
     -- of the kept rows exactly those whose column is among the values, in their order
@@ -105,14 +106,14 @@ module _ (e : Envelope) (words : List ℕ) where
     -- the rows that were kept are those that still are, and those removed
     pub removed-rows : length (keptRows e words marks (a .relation))
         ≡ length (keptRows e words (reducedBy e words values a marks) (a .relation)) + removedBy e words values a marks
-    unfolding keptRows removedBy
+    unfolding keptRows removedBy removedOver marksAt rowsAt
     removed-rows =
         removed-kept values (a .column) (marksAt e words (a .relation) marks) (rowsAt e words (a .relation))
         ∙ ap (λ (ms : List ℕ). length (keptOf ms (rowsAt e words (a .relation))) + removedBy e words values a marks) (sym reduced-own)
 
   pub reduced-alike : (values others : List ℕ) (a : Place) (marks : List ℕ) → ((v : ℕ) → among values v ≡ among others v)
       → reducedBy e words values a marks ≡ reducedBy e words others a marks
-  unfolding reducedBy
+  unfolding reducedBy sievedOver marksAt rowsAt
   reduced-alike values others a marks h =
       ap (sets marks (firstMark e words (a .relation)))
       (sieved-alike values others (a .column) h (marksAt e words (a .relation) marks) (rowsAt e words (a .relation)))

@@ -6,7 +6,7 @@ use Prim.Native.Nat.{ℕ, zero, suc, _+_, _≤_, _<_, min}
 use native.Mathlib.Nat.{min-le-left}
 use native.Mathlib.Numerals.{add-one}
 use native.Mathlib.Omega.{arith}
-use lib.ListN.{length, getD, take, drop, replicate, length-take, drop-of-length-le}
+use lib.ListN.{length, getD, take, drop, replicate, length-take, length-replicate, drop-of-length-le}
 use lib.Seq.{sets, drop-cons, getD-take}
 use Rattle.ground.specs.Lists.{Every, below}
 use Rattle.ground.specs.Rising.{Rises}
@@ -15,13 +15,14 @@ use Rattle.ground.specs.Outcome.Outcome.{good}
 use Rattle.ground.specs.declared.Verdict.{Verdict}
 use Rattle.ground.specs.declared.Verdict.the-variants.{Taken, Refused}
 use Rattle.ground.proofs.ListLaws.{each-alike}
+use Rattle.ground.proofs.OutcomeLaws.{never}
 use Rattle.ground.proofs.EveryLaws.{every-getD}
 use Rattle.ground.proofs.NumbersLaws.{below-from}
 use Rattle.fields.proofs.PutLaws.{fresh-bytes}
 use Rattle.contents.specs.Parts.{relationCount}
 use Rattle.envelopes.specs.Rules.{Within}
 use Rattle.contents.specs.declared.envelope.Envelope.{Envelope}
-use Rattle.paths.specs.Steps.{legal, LegalStep}
+use Rattle.paths.specs.Steps.{isPlace, legal, LegalStep}
 use Rattle.papers.specs.Programs.{noStep, stepsOf}
 use Rattle.papers.specs.Checks.{papersOf, shownPapers}
 use Rattle.paths.specs.declared.steps.Step.{Step}
@@ -29,42 +30,71 @@ use Rattle.papers.specs.declared.programs.Program.{Program}
 use Rattle.papers.specs.declared.checks.PapersRead.{PapersRead}
 use Rattle.paths.proofs.StepLaws.{legal-step}
 use Rattle.papers.proofs.CheckLaws.{papers-taken, papers-refused, papers-sound, GoodPapers}
-use Rattle.semijoin.specs.Shape.{shaped, marksTests, judgement}
+use Rattle.tables.specs.Shape.{shaped, marksTests, judgement}
 use Rattle.semijoin.specs.Local.{openedAt, opened, openedIn}
 use Rattle.semijoin.specs.Marks.{reducedBy, marksAfter}
-use Rattle.semijoin.specs.Values.{valuesOf, risingValues}
+use Rattle.tables.specs.Offsets.{rowCount}
+use Rattle.tables.specs.Values.{valuesOf, risingValues, valuesOutcome, gatheredOf, gatheredIn}
+use Rattle.tables.specs.declared.values.Gathered.{Gathered}
+use Rattle.tables.specs.declared.values.Gathered.the-variants as g
 use Rattle.semijoin.specs.Run.{stepped, steppedAll, runMarks, runChecked, runOutcome}
-use Rattle.semijoin.proofs.JudgedLaws.{judge-refused, judge-taken}
-use Rattle.semijoin.proofs.ShapeLaws.{shaped-shape}
+use Rattle.tables.proofs.JudgedLaws.{judge-refused, judge-taken}
+use Rattle.tables.proofs.ShapeLaws.{shaped-shape}
+use Rattle.tables.proofs.CallLaws.{values-length, values-buffer}
 use Rattle.semijoin.proofs.PromiseLaws.{promise}
 use Rattle.semijoin.proofs.CallCodeLaws.{after-refused, after-taken}
 
--- ---- a step, by the right column's rising values
+-- ---- a step, by the right column's rising values: a buffer of 4,096 takes them all, so that gathering them is not refused
 
-module _ (e : Envelope) (words marks : List ℕ) (s : Step) (size n : ℕ) (values after : List ℕ)
-    (f : n ≡ length (risingValues e words marks (s .right))) (g : values ≡ sets (replicate size 0) 0 (risingValues e words marks (s .right)))
-    (t : shaped e words ≡ true) (h : 4096 ≤ size) where
-  few : length (risingValues e words marks (s .right)) ≤ size
+module _ (e : Envelope) (words marks : List ℕ) (s : Step) (size : ℕ) (h : 4096 ≤ size) (t : shaped e words ≡ true)
+    (room : rowCount e words ≤ length marks) (p : isPlace e (s .right) ≡ true) (gathered : Gathered)
+    (f : gathered ≡ gatheredOf (valuesOutcome e (s .right) words marks 0 (replicate size 0))) where
+  abbrev rising : List ℕ
+  rising = risingValues e words marks (s .right)
+
+  few : length rising ≤ size
   few = omega (arith, promise e .no-more words marks (s .right), shaped-shape e words t .few (s .right .relation))
 
-  found : take n values ≡ risingValues e words marks (s .right)
-  found = fresh-bytes size size (risingValues e words marks (s .right)) n values (f, g, omega (arith, few)) (omega arith)
+  abbrev fresh : List ℕ
+  fresh = replicate size 0
 
-  pub step-fits : n ≤ size
-  step-fits = omega (arith, few)
+  fits : 0 + length rising ≤ length fresh
+  fits =
+      let zero : ℕ = 0 in
+      let long : length fresh ≡ size = length-replicate size zero in
+      omega (arith, few)
 
-  pub step-count : n ≡ length (take n values)
-  step-count = f ∙ ap length (sym found)
+  is-length : gathered ≡ g.Length (length rising)
+  is-length = f ∙ values-length e (s .right) words marks 0 fresh t room p fits
 
-  pub step-rises : Rises 0 (take n values)
-  step-rises = rw found (promise e .rises words marks (s .right))
+  pub step-refused : (m q : ℕ) → gathered ≡ g.Refused m q → ⊥
+  step-refused m q k = let z : _≡_ {A = ℕ} 0 1 = cc is-length in never z
 
-  pub step-taken : after ≡ reducedBy e words (take n values) (s .left) marks → after ≡ stepped e words s marks
-  unfolding stepped
-  step-taken a =
-      a
-      ∙ ap (λ (l : List ℕ). reducedBy e words l (s .left) marks) found
-      ∙ promise e .either-list words marks (s .right) words marks (s .left)
+  module _ (values : List ℕ) (b : values ≡ gatheredIn 0 (replicate size 0) (valuesOutcome e (s .right) words marks 0 (replicate size 0)))
+      (n : ℕ) (k : gathered ≡ g.Length n) where
+    count : n ≡ length rising
+    count = cc is-length
+
+    found : take n values ≡ risingValues e words marks (s .right)
+    found =
+        let stands = b ∙ values-buffer e (s .right) words marks 0 fresh t room p fits in
+        fresh-bytes size size rising n values (count, stands, omega (arith, few, count)) (omega arith)
+
+    pub step-fits : n ≤ size
+    step-fits = omega (arith, few, count)
+
+    pub step-count : n ≡ length (take n values)
+    step-count = count ∙ ap length (sym found)
+
+    pub step-rises : Rises 0 (take n values)
+    step-rises = rw found (promise e .rises words marks (s .right))
+
+    pub step-taken : (after : List ℕ) → after ≡ reducedBy e words (take n values) (s .left) marks → after ≡ stepped e words s marks
+    unfolding stepped
+    step-taken after a =
+        a
+        ∙ ap (λ (l : List ℕ). reducedBy e words l (s .left) marks) found
+        ∙ promise e .either-list words marks (s .right) words marks (s .left)
 
 pub legal-used : (e : Envelope) (p : Program) → Every (λ (s : Step). legal e s ≡ true) (stepsOf p)
     → Every (λ (s : Step). legal e s ≡ true) (take (p .count) (p .steps))

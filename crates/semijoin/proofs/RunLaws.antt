@@ -40,22 +40,23 @@ use Rattle.paths.proofs.MeaningLaws.{columns-equal}
 use Rattle.papers.proofs.TidyLaws.{tidy-acceptable}
 use Rattle.papers.proofs.ExactPrograms.{program-complete}
 use Rattle.papers.proofs.ExactChecks.{check-exact}
-use Rattle.semijoin.specs.Offsets.{countIn, rowCount}
+use Rattle.tables.specs.Offsets.{countIn, rowCount, marksAt, rowsAt}
 use Rattle.semijoin.specs.Local.{opened}
-use Rattle.semijoin.specs.Marks.{keptRows, keptTables, reducedBy}
-use Rattle.semijoin.specs.Rising.{among}
-use Rattle.semijoin.specs.Values.{valuesOf}
+use Rattle.tables.specs.Rows.{keptRows, keptTables}
+use Rattle.semijoin.specs.Marks.{reducedBy}
+use Rattle.tables.specs.Rising.{among}
+use Rattle.tables.specs.Values.{valuesOf, valuesOver}
 use Rattle.semijoin.specs.Run.{stepped, steppedAll, runChecked, runMarks, runOutcome}
-use Rattle.semijoin.specs.Shape.{shaped, marksTests}
+use Rattle.tables.specs.Shape.{shaped, marksTests}
 use Rattle.semijoin.specs.Promise.{rowOf, wordOf, keptAt, FewerRows, NeededIn, Covers}
-use Rattle.semijoin.proofs.OffsetLaws.{count-outside}
-use Rattle.semijoin.proofs.JudgedLaws.{marks-pass}
+use Rattle.tables.proofs.OffsetLaws.{count-outside}
+use Rattle.tables.proofs.JudgedLaws.{marks-pass}
 use Rattle.semijoin.proofs.PromiseLaws.{promise}
 use Rattle.semijoin.proofs.LocalLaws.{needed-passes, opened-kept, opened-past}
 use Rattle.semijoin.proofs.TidyLaws.{tidy-shaped, tidy-row-count, tidy-run, tidy-program-run}
 use Rattle.semijoin.proofs.AnswerLaws.{listed-length, listed-at, answer-filtered, delivered}
 use Rattle.semijoin.proofs.ReducedLaws.{rows-reduced, rows-others}
-use Rattle.semijoin.proofs.ShapeLaws.{place-relation}
+use Rattle.tables.proofs.ShapeLaws.{place-relation}
 
 module _ (e : Envelope) (words : List ℕ) where
   -- marks keep every row that the answer needs
@@ -129,7 +130,7 @@ module _ (e : Envelope) (words : List ℕ) where
 
     module _ (t : legal e s ≡ true) where
       partner : (row : Row) → NeededIn e (keptTables e words marks) (s .left .relation) row → occursRight row ≡ true
-      unfolding valuesOf
+      unfolding valuesOf valuesOver keptRows marksAt rowsAt
       partner row (rows, m, met, w) =
           let k : s .right .relation < relationCount e = place-relation e (s .right) (legal-step e s t .right) in
           let long : s .right .relation < length (keptTables e words marks) = rw (listed-length (keptRows e words marks) (relationCount e)) k in

@@ -1,12 +1,11 @@
 -- What a check takes is the envelope with zeros where its arrays are not in use. It has the same offsets, shape, local
 -- operations, steps and runs as the struct that was checked.
 use mathlib.Core.Path.{_≡_, refl, ap}
-use mathlib.Core.Bool.{Bool, true, _&&_}
+use mathlib.Core.Bool.{Bool, true}
 use mathlib.Core.List.{List, [], _∷_}
 use Prim.Native.Nat.{ℕ, _+_, _*_}
 use lib.Seq.{sets}
 use lib.Dec.{leb}
-use Rattle.ground.specs.Tests.{pick}
 use Rattle.ground.specs.Lists.{below, sum}
 use Rattle.ground.proofs.ListLaws.{map-alike, each-alike, all-alike}
 use Rattle.ground.proofs.CollectingLaws.{padded-take}
@@ -15,17 +14,17 @@ use Rattle.envelopes.specs.Rules.{Within, tidy}
 use Rattle.entries.specs.declared.places.Place.{Place}
 use Rattle.contents.specs.declared.envelope.Envelope.{Envelope}
 use Rattle.envelopes.proofs.TidyLaws.{tidy-relation-count, tidy-columns-in}
-use Rattle.paths.specs.Meaning.{Row}
 use Rattle.papers.specs.Programs.{noStep, stepsOf, tidyProgram}
 use Rattle.paths.specs.declared.steps.Step.{Step}
 use Rattle.papers.specs.declared.programs.Program.{Program}
 use Rattle.papers.proofs.TidyLaws.{tidy-selections, tidy-equalities}
-use Rattle.semijoin.specs.Offsets.{countIn, wordsBefore, rowsBefore, firstWord, rowCount, rowsAt, marksAt}
-use Rattle.semijoin.specs.Shape.{shaped}
-use Rattle.semijoin.specs.Local.{passesBy, passes, openedAt, opened}
-use Rattle.semijoin.specs.Marks.{keptRows, reducedBy}
-use Rattle.semijoin.specs.Values.{valuesOf}
+use Rattle.tables.specs.Offsets.{countIn, wordsBefore, rowsBefore, firstWord, rowCount, rowsAt, extentOf, rowsOver}
+use Rattle.tables.specs.Shape.{shaped}
+use Rattle.semijoin.specs.Local.{openedAt, opened}
+use Rattle.semijoin.specs.Marks.{reducedBy, sievedOver}
+use Rattle.tables.specs.Values.{valuesOf, valuesOver}
 use Rattle.semijoin.specs.Run.{stepped, steppedAll, runMarks}
+use Rattle.tables.specs.declared.offsets.Extent.{Extent}
 
 module _ (e : Envelope) (within : Within e) where
   -- ---- offsets
@@ -49,13 +48,12 @@ module _ (e : Envelope) (within : Within e) where
       (map-alike (λ q. countIn (tidy e) words q * columnsIn (tidy e) q) (λ q. countIn e words q * columnsIn e q) (below r)
       (λ q m. rw (tidy-count words q, tidy-columns-in e q))))
 
+  pub tidy-extent : (words : List ℕ) (r : ℕ) → extentOf (tidy e) words r ≡ extentOf e words r
+  tidy-extent words r = rw (tidy-columns-in e r, tidy-count words r, tidy-first-word words r, tidy-rows-before words r)
+
   pub tidy-rows-at : (words : List ℕ) (r : ℕ) → rowsAt (tidy e) words r ≡ rowsAt e words r
   unfolding rowsAt
-  tidy-rows-at words r = rw (tidy-columns-in e r, tidy-count words r, tidy-first-word words r)
-
-  pub tidy-marks-at : (words : List ℕ) (r : ℕ) (marks : List ℕ) → marksAt (tidy e) words r marks ≡ marksAt e words r marks
-  unfolding marksAt
-  tidy-marks-at words r marks = rw (tidy-count words r, tidy-rows-before words r)
+  tidy-rows-at words r = ap (λ (x : Extent). rowsOver x words) (tidy-extent words r)
 
   -- ---- shape and local operations
 
@@ -69,32 +67,22 @@ module _ (e : Envelope) (within : Within e) where
         tidy-first-word words (relationCount e),
       )
 
-  tidy-passes : (r : ℕ) (row : Row) → passes (tidy e) r row ≡ passes e r row
-  unfolding passes passesBy
-  tidy-passes r row = rw (tidy-selections e within r, tidy-equalities e within r)
-
   pub tidy-opened : (words : List ℕ) (here : ℕ → Bool) → opened (tidy e) words here ≡ opened e words here
   unfolding opened openedAt
   tidy-opened words here =
       rw (tidy-relation-count e within)
       (each-alike (λ r. openedAt (tidy e) words (here r) r) (λ r. openedAt e words (here r) r) (below (relationCount e)) λ r m.
-      rw (tidy-rows-at words r)
-      (map-alike _ (λ (row : Row). pick (here r && passes e r row) 1 0) (rowsAt e words r) λ row n. rw (tidy-passes r row)))
+      rw (tidy-rows-at words r, tidy-selections e within r, tidy-equalities e within r))
 
   -- ---- steps
 
-  pub tidy-kept-rows : (words marks : List ℕ) (r : ℕ) → keptRows (tidy e) words marks r ≡ keptRows e words marks r
-  unfolding keptRows
-  tidy-kept-rows words marks r = rw (tidy-marks-at words r marks, tidy-rows-at words r)
-
   pub tidy-values : (words marks : List ℕ) (a : Place) → valuesOf (tidy e) words marks a ≡ valuesOf e words marks a
   unfolding valuesOf
-  tidy-values words marks a = rw (tidy-kept-rows words marks (a .relation))
+  tidy-values words marks a = ap (λ (x : Extent). valuesOver x (a .column) words marks) (tidy-extent words (a .relation))
 
   pub tidy-reduced : (words values : List ℕ) (a : Place) (marks : List ℕ) → reducedBy (tidy e) words values a marks ≡ reducedBy e words values a marks
   unfolding reducedBy
-  tidy-reduced words values a marks =
-      rw (tidy-rows-before words (a .relation), tidy-marks-at words (a .relation) marks, tidy-rows-at words (a .relation))
+  tidy-reduced words values a marks = ap (λ (x : Extent). sievedOver x (a .column) words values marks) (tidy-extent words (a .relation))
 
   tidy-stepped : (words : List ℕ) (s : Step) (marks : List ℕ) → stepped (tidy e) words s marks ≡ stepped e words s marks
   unfolding stepped

@@ -18,8 +18,8 @@ use Rattle.paths.specs.Implied.{impliedSelections, impliedEqualities}
 use Rattle.paths.specs.Meaning.{Row, wordIn}
 use Rattle.paths.specs.declared.implied.Selected.{Selected}
 use Rattle.paths.specs.declared.implied.Equal.{Equal}
-use Rattle.semijoin.specs.Offsets.{rowsAt}
-use Rattle.semijoin.specs.Shape.{marksTests}
+use Rattle.tables.specs.Offsets.{rowsAt}
+use Rattle.tables.specs.Shape.{marksTests}
 
 -- a row passes some selections and equalities; all that are implied for its relation
 unfoldable pub passesBy : List Selected → List Equal → Row → Bool
@@ -30,9 +30,12 @@ passesBy selections equalities row =
 unfoldable pub passes : Envelope → ℕ → Row → Bool
 passes e r row = passesBy (impliedSelections e r) (impliedEqualities e r) row
 
--- the mark of each row of a relation that is here: 1 where it passes; of one that is not: 0
+-- the mark of a row, by whether its relation is here: 1 where it is and the row passes, else 0; of each row of a relation
+unfoldable pub openingMark : Bool → List Selected → List Equal → Row → ℕ
+openingMark here selections equalities row = pick (here && passesBy selections equalities row) 1 0
+
 unfoldable pub openedAt : Envelope → List ℕ → Bool → ℕ → List ℕ
-openedAt e words here r = map (λ (row : Row). pick (here && passes e r row) 1 0) (rowsAt e words r)
+openedAt e words here r = map (openingMark here (impliedSelections e r) (impliedEqualities e r)) (rowsAt e words r)
 
 -- the marks of all rows, by which relations are here
 unfoldable pub opened : Envelope → List ℕ → (ℕ → Bool) → List ℕ

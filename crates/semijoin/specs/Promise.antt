@@ -16,9 +16,9 @@ use Rattle.contents.specs.declared.envelope.Envelope.{Envelope}
 use Rattle.paths.specs.Meaning.{Row, Table, Combination, wordIn, meetsAll, tablesOf}
 use Rattle.paths.specs.Steps.{isPlace, legal}
 use Rattle.paths.specs.declared.steps.Step.{Step}
-use Rattle.semijoin.specs.Offsets.{countIn, rowCount, rowsAt, marksAt}
-use Rattle.semijoin.specs.Rising.{among}
-use Rattle.semijoin.specs.Marks.{isKept, keptRows}
+use Rattle.tables.specs.Offsets.{countIn, rowCount, rowsAt, marksAt}
+use Rattle.tables.specs.Rising.{among}
+use Rattle.tables.specs.Rows.{isKept, keptRows}
 use Rattle.semijoin.specs.Local.{passes}
 
 -- row i of a relation, a column of it, and whether marks keep it: past the last row there is none that is kept

@@ -11,10 +11,10 @@ use Rattle.papers.specs.Programs.{stepsOf}
 use Rattle.papers.specs.Checks.{papersOf}
 use Rattle.paths.specs.declared.steps.Step.{Step}
 use Rattle.papers.specs.declared.programs.Program.{Program}
-use Rattle.semijoin.specs.Shape.{marksTests}
+use Rattle.tables.specs.Shape.{marksTests}
 use Rattle.semijoin.specs.Local.{openedIn}
 use Rattle.semijoin.specs.Marks.{reducedBy}
-use Rattle.semijoin.specs.Values.{valuesOf}
+use Rattle.tables.specs.Values.{valuesOf}
 
 -- a step in one place, by the right column's values as they are before it; steps one after the other
 unfoldable pub stepped : Envelope → List ℕ → Step → List ℕ → List ℕ

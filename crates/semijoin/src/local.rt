@@ -1,11 +1,11 @@
 // Local operations: the rows of a relation that pass its implied selections and equalities, and the marks at opening.
-use crate::offsets::Extent;
 use contents::envelope::Envelope;
 use ground::Verdict;
 use paths::implied::Equal;
 use paths::implied::Equalities;
 use paths::implied::Selected;
 use paths::implied::Selections;
+use tables::offsets::Extent;
 ghost use mathlib.Core.Path.{_≡_};
 ghost use mathlib.Core.Bool.{true, false, not};
 ghost use mathlib.Core.List.{[], map};
@@ -17,25 +17,24 @@ ghost use Rattle.ground.specs.Lists.{any};
 ghost use Rattle.ground.specs.Outcome.{verdictOf};
 ghost use Rattle.envelopes.specs.Rules.{Within};
 ghost use Rattle.paths.specs.Meaning.{wordIn};
-ghost use Rattle.semijoin.specs.Offsets.{rowCount};
-ghost use Rattle.semijoin.specs.Shape.{shaped};
-ghost use Rattle.semijoin.specs.Local.{openedIn, openOutcome};
+ghost use Rattle.tables.specs.Offsets.{rowCount, rowsOver};
+ghost use Rattle.tables.specs.Shape.{shaped};
+ghost use Rattle.semijoin.specs.Local.{openedIn, openOutcome, openingMark};
 ghost use Rattle.semijoin.specs.Marks.{marksAfter};
-ghost use Rattle.semijoin.specs.Extents.{rowsOver, openingMark};
 
 fn breaks_selection(tables: &[u32], extent: Extent, row: usize, selected: Selected) -> bool
     requires { ⌜ (row < extent .rows) × (extent .word + extent .rows * extent .columns ≤ length (now tables)) ⌝ }
     ensures { λ r. ⌜ r ≡ not (eqb (wordIn (getD (rowsOver extent (now (tables .entry))) row []) (selected .column)) (selected .value)) ⌝ }
 {
-    crate::rows::word_or_zero(tables, extent, row, selected.column) != selected.value
+    tables::rows::word_at(tables, extent, row, selected.column) != selected.value
 }
 
 fn breaks_equality(tables: &[u32], extent: Extent, row: usize, equal: Equal) -> bool
     requires { ⌜ (row < extent .rows) × (extent .word + extent .rows * extent .columns ≤ length (now tables)) ⌝ }
     ensures { λ r. ⌜ r ≡ not (eqb (wordIn (getD (rowsOver extent (now (tables .entry))) row []) (equal .left)) (wordIn (getD (rowsOver extent (now (tables .entry))) row []) (equal .right))) ⌝ }
 {
-    let left = crate::rows::word_or_zero(tables, extent, row, equal.left);
-    let right = crate::rows::word_or_zero(tables, extent, row, equal.right);
+    let left = tables::rows::word_at(tables, extent, row, equal.left);
+    let right = tables::rows::word_at(tables, extent, row, equal.right);
     left != right
 }
 
@@ -132,7 +131,7 @@ pub(crate) fn open_all(envelope: Envelope, tables: &[u32], here: [bool; 8], mark
     let end = ground::used::in_use(8, envelope.relation_count);
     let mut relation: u8 = 0;
     while (relation as usize) < end {
-        let extent = crate::offsets::extent_of(envelope, tables, relation);
+        let extent = tables::offsets::extent_of(envelope, tables, relation);
         let selections = paths::implied::selections_by(envelope, labels, relation);
         let equalities = paths::implied::equalities_by(envelope, labels, relation);
         let own = here[relation as usize];
@@ -151,7 +150,7 @@ pub fn open_marks(envelope: Envelope, tables: &[u32], here: [bool; 8], marks: &m
         Verdict::Refused { number, position } => Verdict::Refused { number, position },
         Verdict::Taken => {
             let checked = read.envelope;
-            let found = crate::shape::judge_marks(checked, tables, marks.len());
+            let found = tables::shape::judge_marks(checked, tables, marks.len());
             match found {
                 Verdict::Refused { number, position } => Verdict::Refused { number, position },
                 Verdict::Taken => {

@@ -3,6 +3,7 @@ use contents::envelope::Envelope;
 use ground::Verdict;
 use papers::programs::Program;
 use paths::steps::Step;
+use tables::values::Gathered;
 ghost use mathlib.Core.Path.{_≡_};
 ghost use mathlib.Core.Bool.{true};
 ghost use Prim.Native.Nat.{_≤_};
@@ -12,8 +13,8 @@ ghost use Rattle.ground.specs.Outcome.{verdictOf};
 ghost use Rattle.envelopes.specs.Rules.{Within};
 ghost use Rattle.paths.specs.Steps.{isPlace, legal};
 ghost use Rattle.papers.specs.Programs.{stepsOf};
-ghost use Rattle.semijoin.specs.Offsets.{rowCount};
-ghost use Rattle.semijoin.specs.Shape.{shaped};
+ghost use Rattle.tables.specs.Offsets.{rowCount};
+ghost use Rattle.tables.specs.Shape.{shaped};
 ghost use Rattle.semijoin.specs.Marks.{marksAfter};
 ghost use Rattle.semijoin.specs.Run.{stepped, steppedAll, runOutcome, runChecked};
 
@@ -25,8 +26,13 @@ fn take_step(envelope: Envelope, step: Step, tables: &[u32], marks: &mut [u8])
     let left = step.left;
     let right = step.right;
     let mut values = [0u32; 4096];
-    let n = crate::values::gather_all(envelope, right, tables, marks, &mut values);
-    crate::marks::reduce(envelope, left, tables, &values[..n], marks);
+    let gathered = tables::values::values_into(envelope, right, tables, marks, 0, &mut values);
+    match gathered {
+        Gathered::Refused { number, position } => {}
+        Gathered::Length(n) => {
+            crate::marks::reduce(envelope, left, tables, &values[..n], marks);
+        }
+    }
 }
 
 fn take_steps(envelope: Envelope, steps: [Step; 156], n: u8, tables: &[u32], marks: &mut [u8])
@@ -47,7 +53,7 @@ fn run_checked(envelope: Envelope, program: Program, tables: &[u32], marks: &mut
     requires { ⌜ Within envelope × Every (λ (s : Step). legal envelope s ≡ true) (stepsOf program) ⌝ }
     ensures { λ r. ⌜ (r ≡ verdictOf (runChecked envelope program (now (tables .entry)) (now (marks .entry)))) × (now (marks .exit) ≡ marksAfter (now (marks .entry)) (runChecked envelope program (now (tables .entry)) (now (marks .entry)))) ⌝ }
 {
-    let verdict = crate::shape::judge_marks(envelope, tables, marks.len());
+    let verdict = tables::shape::judge_marks(envelope, tables, marks.len());
     match verdict {
         Verdict::Refused { number, position } => Verdict::Refused { number, position },
         Verdict::Taken => {

@@ -32,8 +32,8 @@ use Rattle.papers.specs.declared.checks.Papers.{Papers}
 use Rattle.papers.specs.declared.checks.PapersRead.{PapersRead}
 use Rattle.papers.proofs.CheckLaws.{GoodPapers, papers-taken, papers-refused, papers-sound}
 use Rattle.paths.proofs.StepLaws.{legal-step}
-use Rattle.semijoin.specs.Shape.{marksTests, judgement}
-use Rattle.semijoin.proofs.JudgedLaws.{judge-refused, judge-taken, marks-pass}
+use Rattle.tables.specs.Shape.{marksTests, judgement}
+use Rattle.tables.proofs.JudgedLaws.{judge-refused, judge-taken, marks-pass}
 use Rattle.station.specs.Reducing.{stepCount, stepOf, reduces, reducing, placeOf}
 use Rattle.station.specs.Ends.{overAt, overApplied, soundEnd, usable, Usable}
 use Rattle.station.specs.declared.ends.End.{End}

@@ -15,13 +15,13 @@ use Rattle.contents.specs.Parts.{relationCount}
 use Rattle.contents.specs.Kept.{keptColumns}
 use Rattle.contents.specs.declared.envelope.Envelope.{Envelope}
 use Rattle.paths.specs.Meaning.{Row, wordIn}
-use Rattle.semijoin.specs.Offsets.{countIn, rowCount}
-use Rattle.semijoin.specs.Shape.{shaped}
+use Rattle.tables.specs.Offsets.{countIn, rowCount}
+use Rattle.tables.specs.Shape.{shaped}
 use Rattle.semijoin.specs.Marks.{reducedBy}
-use Rattle.semijoin.specs.Values.{risingValues}
+use Rattle.tables.specs.Values.{risingValues}
 use Rattle.semijoin.specs.Promise.{keptAt, rowOf}
-use Rattle.semijoin.proofs.ShapeLaws.{shaped-shape}
-use Rattle.semijoin.proofs.RisingLaws.{rising-exact}
+use Rattle.tables.proofs.ShapeLaws.{shaped-shape}
+use Rattle.tables.proofs.RisingLaws.{rising-exact}
 use Rattle.semijoin.proofs.PromiseLaws.{promise}
 use Rattle.station.specs.Messages.{valueMessage, rowMessage, counted, soundValues, rowsOf}
 use Rattle.station.specs.Making.{sentRows}

@@ -24,12 +24,12 @@ use Rattle.paths.specs.declared.steps.Step.{Step}
 use Rattle.papers.specs.declared.programs.Program.{Program}
 use Rattle.papers.specs.declared.checks.Papers.{Papers}
 use Rattle.papers.specs.declared.checks.PapersRead.{PapersRead}
-use Rattle.semijoin.specs.Shape.{judgement}
-use Rattle.semijoin.specs.Values.{risingValues, valuesOutcome, gatheredOf, gatheredIn}
-use Rattle.semijoin.specs.declared.values.Gathered.{Gathered}
-use Rattle.semijoin.specs.declared.values.Gathered.the-variants as g
-use Rattle.semijoin.proofs.ShapeLaws.{shaped-shape}
-use Rattle.semijoin.proofs.JudgedLaws.{judge-refused, judge-passed, judge-taken}
+use Rattle.tables.specs.Shape.{judgement}
+use Rattle.tables.specs.Values.{risingValues, valuesOutcome, gatheredOf, gatheredIn}
+use Rattle.tables.specs.declared.values.Gathered.{Gathered}
+use Rattle.tables.specs.declared.values.Gathered.the-variants as g
+use Rattle.tables.proofs.ShapeLaws.{shaped-shape}
+use Rattle.tables.proofs.JudgedLaws.{judge-refused, judge-passed, judge-taken}
 use Rattle.semijoin.proofs.PromiseLaws.{promise}
 use Rattle.station.specs.Reducing.{stepCount, stepOf, isMissing, firstMissing, missingOf}
 use Rattle.station.specs.Calls.{leaves}

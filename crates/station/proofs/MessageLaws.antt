@@ -14,7 +14,7 @@ use Rattle.ground.specs.Lists.{each, Every}
 use Rattle.ground.proofs.OutcomeLaws.{never}
 use Rattle.ground.proofs.TestLaws.{and-left, and-right, and-both}
 use Rattle.paths.specs.Meaning.{Row, Table, rowsIn}
-use Rattle.semijoin.specs.Rising.{isRising}
+use Rattle.tables.specs.Rising.{isRising}
 use Rattle.station.specs.Messages.{valueMessage, rowMessage, runOf, markOf, countOf, bodyOf, aboutOf, counted, soundValues, rowsOf}
 use Rattle.station.specs.declared.messages.About.{About}
 use Rattle.station.specs.declared.messages.About.the-variants.{Step, Rows, Nothing}

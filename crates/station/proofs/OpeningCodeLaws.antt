@@ -24,8 +24,8 @@ use Rattle.papers.specs.declared.programs.Program.{Program}
 use Rattle.papers.specs.declared.checks.Papers.{Papers}
 use Rattle.papers.specs.declared.checks.PapersRead.{PapersRead}
 use Rattle.papers.proofs.CheckLaws.{GoodPapers, papers-taken, papers-refused, papers-sound}
-use Rattle.semijoin.specs.Offsets.{rowCount}
-use Rattle.semijoin.specs.Shape.{shaped}
+use Rattle.tables.specs.Offsets.{rowCount}
+use Rattle.tables.specs.Shape.{shaped}
 use Rattle.semijoin.specs.Marks.{marksAfter}
 use Rattle.semijoin.specs.Local.{openedIn, openOutcome}
 use Rattle.station.specs.Calls.{leaves}

@@ -21,13 +21,12 @@ use Rattle.contents.specs.Kept.{keptColumns, kept, shownColumns}
 use Rattle.contents.specs.declared.envelope.Envelope.{Envelope}
 use Rattle.contents.specs.declared.kept.Columns.{Columns}
 use Rattle.paths.specs.Meaning.{Row, Table, wordIn}
-use Rattle.semijoin.specs.Offsets.{countIn, rowCount}
-use Rattle.semijoin.specs.Shape.{shaped}
-use Rattle.semijoin.specs.Marks.{keptRows}
-use Rattle.semijoin.specs.Extents.{extentOf, wordOver, keptOver}
+use Rattle.tables.specs.Offsets.{countIn, rowCount, extentOf}
+use Rattle.tables.specs.Shape.{shaped}
+use Rattle.tables.specs.Rows.{keptRows, wordOver, keptOver}
 use Rattle.semijoin.specs.Promise.{rowOf, keptAt}
-use Rattle.semijoin.specs.declared.offsets.Extent.{Extent}
-use Rattle.semijoin.proofs.ShapeLaws.{shaped-shape, columns-most}
+use Rattle.tables.specs.declared.offsets.Extent.{Extent}
+use Rattle.tables.proofs.ShapeLaws.{shaped-shape, columns-most}
 use Rattle.station.specs.Messages.{rowMessage}
 use Rattle.station.specs.Making.{sentRows, fitted}
 use Rattle.station.specs.declared.making.Made.{Made}

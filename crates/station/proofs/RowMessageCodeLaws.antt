@@ -28,13 +28,13 @@ use Rattle.papers.specs.Checks.{shownPapers}
 use Rattle.papers.specs.declared.programs.Program.{Program}
 use Rattle.papers.specs.declared.checks.Papers.{Papers}
 use Rattle.papers.specs.declared.checks.PapersRead.{PapersRead}
-use Rattle.semijoin.specs.Offsets.{countIn, rowCount}
-use Rattle.semijoin.specs.Shape.{shaped, judgement}
-use Rattle.semijoin.specs.Extents.{extentOf, wordOver, keptOver}
+use Rattle.tables.specs.Offsets.{countIn, rowCount, extentOf}
+use Rattle.tables.specs.Shape.{shaped, judgement}
+use Rattle.tables.specs.Rows.{wordOver, keptOver}
 use Rattle.semijoin.specs.Promise.{keptAt}
-use Rattle.semijoin.specs.declared.offsets.Extent.{Extent}
-use Rattle.semijoin.proofs.ShapeLaws.{shaped-shape, columns-most}
-use Rattle.semijoin.proofs.JudgedLaws.{judge-refused, judge-taken}
+use Rattle.tables.specs.declared.offsets.Extent.{Extent}
+use Rattle.tables.proofs.ShapeLaws.{shaped-shape, columns-most}
+use Rattle.tables.proofs.JudgedLaws.{judge-refused, judge-taken}
 use Rattle.station.specs.Reducing.{stepCount}
 use Rattle.station.specs.Ends.{usable, Usable}
 use Rattle.station.specs.Messages.{rowMessage}

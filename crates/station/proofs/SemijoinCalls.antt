@@ -29,21 +29,21 @@ use Rattle.contents.specs.declared.envelope.Envelope.{Envelope}
 use Rattle.envelopes.proofs.ExactEnvelope.{check-complete}
 use Rattle.paths.specs.Steps.{isPlace}
 use Rattle.paths.specs.Meaning.{Row, Table, wordIn}
-use Rattle.semijoin.specs.Offsets.{countIn, rowCount, rowsAt, marksAt}
-use Rattle.semijoin.specs.Shape.{shaped, marksTests, columnTests, judgement}
-use Rattle.semijoin.specs.Rising.{isRising}
-use Rattle.semijoin.specs.Marks.{isKept, keptOf, keptRows, reducedBy, reduceOutcome, reducedOf, marksAfter}
-use Rattle.semijoin.specs.Values.{risingValues, roomTest, valuesOutcome, gatheredOf, gatheredIn}
+use Rattle.tables.specs.Offsets.{countIn, rowCount, rowsAt, marksAt, extentOf, rowsOver, marksOver}
+use Rattle.tables.specs.Shape.{shaped, marksTests, columnTests, judgement}
+use Rattle.tables.specs.Rising.{isRising}
+use Rattle.tables.specs.Rows.{isKept, keptOf, keptRows, wordOver, keptOver}
+use Rattle.semijoin.specs.Marks.{reducedBy, reduceOutcome, reducedOf, marksAfter}
+use Rattle.tables.specs.Values.{risingValues, roomTest, valuesOutcome, gatheredOf, gatheredIn}
 use Rattle.semijoin.specs.Local.{openedIn, openOutcome}
-use Rattle.semijoin.specs.Extents.{extentOf, rowsOver, marksOver, wordOver, keptOver}
 use Rattle.semijoin.specs.Promise.{rowOf, keptAt}
-use Rattle.semijoin.specs.declared.values.Gathered.{Gathered}
-use Rattle.semijoin.specs.declared.values.Gathered.the-variants as g
+use Rattle.tables.specs.declared.values.Gathered.{Gathered}
+use Rattle.tables.specs.declared.values.Gathered.the-variants as g
 use Rattle.semijoin.specs.declared.marks.Reduced.{Reduced}
 use Rattle.semijoin.specs.declared.marks.Reduced.the-variants as r
-use Rattle.semijoin.proofs.JudgedLaws.{column-pass}
-use Rattle.semijoin.proofs.MarkLaws.{kept-more}
-use Rattle.semijoin.proofs.OffsetLaws.{rowsAt-length}
+use Rattle.tables.proofs.JudgedLaws.{column-pass}
+use Rattle.tables.proofs.RowLaws.{kept-more}
+use Rattle.tables.proofs.OffsetLaws.{rowsAt-length}
 use Rattle.semijoin.proofs.ReducedLaws.{marks-length}
 
 module _ (e : Envelope) (words : List ℕ) (shape : shaped e words ≡ true) (marks : List ℕ) where

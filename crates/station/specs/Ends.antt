@@ -19,8 +19,8 @@ use Rattle.papers.specs.Checks.{papersOf}
 use Rattle.papers.specs.declared.programs.Program.{Program}
 use Rattle.papers.specs.declared.checks.Papers.{Papers}
 use Rattle.papers.proofs.CheckLaws.{GoodPapers}
-use Rattle.semijoin.specs.Offsets.{rowCount}
-use Rattle.semijoin.specs.Shape.{shaped, marksTests}
+use Rattle.tables.specs.Offsets.{rowCount}
+use Rattle.tables.specs.Shape.{shaped, marksTests}
 use Rattle.station.specs.Reducing.{stepCount, placeOf}
 use Rattle.station.specs.declared.ends.End.{End}
 

@@ -17,8 +17,8 @@ use Rattle.contents.specs.declared.envelope.Envelope.{Envelope}
 use Rattle.paths.specs.Meaning.{Row, Table, wordIn}
 use Rattle.papers.specs.declared.programs.Program.{Program}
 use Rattle.papers.specs.declared.checks.Papers.{Papers}
-use Rattle.semijoin.specs.Marks.{keptRows}
-use Rattle.semijoin.specs.Values.{risingValues}
+use Rattle.tables.specs.Rows.{keptRows}
+use Rattle.tables.specs.Values.{risingValues}
 use Rattle.station.specs.Reducing.{stepCount, stepOf, isMissing, firstMissing}
 use Rattle.station.specs.Calls.{leaves}
 use Rattle.station.specs.Ends.{usable}

@@ -9,7 +9,7 @@ use lib.Dec.{eqb, ltb, leb}
 use Rattle.ground.specs.Tests.{pick}
 use Rattle.ground.specs.Lists.{each}
 use Rattle.paths.specs.Meaning.{Row, Table, rowsIn}
-use Rattle.semijoin.specs.Rising.{isRising}
+use Rattle.tables.specs.Rising.{isRising}
 use Rattle.station.specs.declared.messages.About.{About}
 use Rattle.station.specs.declared.messages.About.the-variants.{Step, Rows, Nothing}
 

@@ -15,8 +15,8 @@ use Rattle.contents.specs.declared.envelope.Envelope.{Envelope}
 use Rattle.papers.specs.Checks.{papersOf}
 use Rattle.papers.specs.declared.programs.Program.{Program}
 use Rattle.papers.specs.declared.checks.Papers.{Papers}
-use Rattle.semijoin.specs.Offsets.{rowCount}
-use Rattle.semijoin.specs.Shape.{shaped}
+use Rattle.tables.specs.Offsets.{rowCount}
+use Rattle.tables.specs.Shape.{shaped}
 use Rattle.semijoin.specs.Local.{openedIn}
 use Rattle.station.specs.Calls.{leaves}
 use Rattle.station.specs.Ends.{Marked, startOf, noEnd}

@@ -135,7 +135,7 @@ pub(crate) fn usable_end(end: End, tables: &[u32], n: usize) -> PapersRead
         Verdict::Taken => {
             let papers = read.papers;
             let envelope = papers.envelope;
-            let found = semijoin::shape::judge_marks(envelope, tables, n);
+            let found = tables::shape::judge_marks(envelope, tables, n);
             match found {
                 Verdict::Refused { number, position } => refused_end(number, position),
                 Verdict::Taken => read,

@@ -6,13 +6,13 @@ use fields::refusals;
 use ground::Verdict;
 use papers::checks::Papers;
 use papers::programs::Program;
-use semijoin::values::Gathered;
+use tables::values::Gathered;
 ghost use mathlib.Core.Path.{_≡_};
 ghost use mathlib.Core.Bool.{_&&_};
 ghost use lib.ListN.{length};
 ghost use lib.Dec.{ltb};
 ghost use Rattle.contents.specs.Sites.{isAt};
-ghost use Rattle.semijoin.specs.Shape.{judgement};
+ghost use Rattle.tables.specs.Shape.{judgement};
 ghost use Rattle.station.specs.Reducing.{stepCount};
 ghost use Rattle.station.specs.Ends.{Usable};
 ghost use Rattle.station.specs.Making.{sendTests, valuesWith, makeValuesOf, rowsWith, makeRowsOf, shownMade, madeIn};
@@ -77,14 +77,7 @@ fn values_with(
     match verdict {
         Verdict::Refused { number, position } => Made::Refused { number, position },
         Verdict::Taken => {
-            let gathered = semijoin::values::values_into(
-                envelope,
-                right,
-                tables,
-                marks,
-                3,
-                message,
-            );
+            let gathered = tables::values::values_into(envelope, right, tables, marks, 3, message);
             match gathered {
                 Gathered::Refused { number, position } => Made::Refused { number, position },
                 Gathered::Length(count) => {

@@ -66,7 +66,7 @@ fn open_with(papers: Papers, site: u32, run: u32, tables: &[u32], marks: &mut [u
     ensures { λ r. ⌜ (r ≡ shownOpened (openWith papers site run (now (tables .entry)) (now (marks .entry)))) × (now (marks .exit) ≡ openedMarks (now (marks .entry)) (openWith papers site run (now (tables .entry)) (now (marks .entry)))) ⌝ }
 {
     let envelope = papers.envelope;
-    if !semijoin::shape::is_shaped(envelope, tables) {
+    if !tables::shape::is_shaped(envelope, tables) {
         return refused_opening(refusals::WRONG_SHAPE, 0);
     }
     if 7 < site {

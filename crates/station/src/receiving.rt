@@ -13,7 +13,7 @@ ghost use lib.Seq.{sets};
 ghost use lib.Dec.{ltb};
 ghost use Rattle.ground.specs.Tests.{pick};
 ghost use Rattle.contents.specs.Parts.{relationCount};
-ghost use Rattle.semijoin.specs.Rising.{isRising};
+ghost use Rattle.tables.specs.Rising.{isRising};
 ghost use Rattle.station.specs.Reducing.{stepCount};
 ghost use Rattle.station.specs.Calls.{leaves};
 ghost use Rattle.station.specs.Ends.{Usable, Marked};
@@ -94,7 +94,7 @@ fn not_next(message: &[u32], place: u32, done: u32) -> u8
     requires { ⌜ 3 ≤ length (now message) ⌝ }
     ensures { λ r. ⌜ r ≡ pick (not (isRising (drop 3 (now (message .entry))))) 15 (pick (ltb place done) 16 17) ⌝ }
 {
-    if !semijoin::rising::is_rising(&message[3..]) {
+    if !tables::rising::is_rising(&message[3..]) {
         return refusals::NOT_SOUND;
     }
     if place < done {

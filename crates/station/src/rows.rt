@@ -2,7 +2,7 @@
 use crate::making::Made;
 use contents::envelope::Envelope;
 use fields::refusals;
-use semijoin::offsets::Extent;
+use tables::offsets::Extent;
 ghost use mathlib.Core.Path.{_≡_};
 ghost use mathlib.Core.Bool.{true};
 ghost use mathlib.Core.List.{map};
@@ -11,9 +11,9 @@ ghost use lib.ListN.{length, take};
 ghost use lib.Seq.{sets};
 ghost use Rattle.ground.specs.Lists.{filter, below, each};
 ghost use Rattle.contents.specs.Parts.{relationCount};
-ghost use Rattle.semijoin.specs.Offsets.{rowCount};
-ghost use Rattle.semijoin.specs.Shape.{shaped};
-ghost use Rattle.semijoin.specs.Extents.{wordOver, keptOver};
+ghost use Rattle.tables.specs.Offsets.{rowCount};
+ghost use Rattle.tables.specs.Shape.{shaped};
+ghost use Rattle.tables.specs.Rows.{wordOver, keptOver};
 ghost use Rattle.station.specs.Messages.{rowMessage};
 ghost use Rattle.station.specs.Making.{sentRows, fitted, shownMade, madeIn};
 
@@ -24,7 +24,7 @@ fn count_kept(marks: &[u8], extent: Extent) -> usize
     let mut n: usize = 0;
     let mut row: usize = 0;
     while row < extent.rows {
-        if semijoin::rows::is_kept(marks, extent, row) {
+        if tables::rows::is_kept(marks, extent, row) {
             n += 1;
         }
         row += 1;
@@ -50,7 +50,7 @@ fn put_row(
     let mut p = at;
     while i < end {
         let column = numbers[i];
-        message[p] = semijoin::rows::word_at(tables, extent, row, column);
+        message[p] = tables::rows::word_at(tables, extent, row, column);
         p += 1;
         i += 1;
     }
@@ -72,7 +72,7 @@ fn put_rows(
     let mut at: usize = 3;
     let mut row: usize = 0;
     while row < extent.rows {
-        let kept = semijoin::rows::is_kept(marks, extent, row);
+        let kept = tables::rows::is_kept(marks, extent, row);
         if kept {
             put_row(tables, extent, row, numbers, count, at, message);
             at += width;
@@ -93,7 +93,7 @@ pub(crate) fn put_row_message(
     requires { ⌜ (shaped envelope (now tables) ≡ true) × (rowCount envelope (now tables) ≤ length (now marks)) × (relation < relationCount envelope) ⌝ }
     ensures { λ r. ⌜ (r ≡ shownMade (fitted (length (now (message .entry))) (rowMessage run relation (sentRows envelope (now (tables .entry)) (now (marks .entry)) relation)))) × (now (message .exit) ≡ madeIn (now (message .entry)) (fitted (length (now (message .entry))) (rowMessage run relation (sentRows envelope (now (tables .entry)) (now (marks .entry)) relation)))) ⌝ }
 {
-    let extent = semijoin::offsets::extent_of(envelope, tables, relation);
+    let extent = tables::offsets::extent_of(envelope, tables, relation);
     let columns = contents::kept::kept_columns(envelope, relation);
     let numbers = columns.numbers;
     let count = count_kept(marks, extent);

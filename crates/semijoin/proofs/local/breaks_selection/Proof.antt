@@ -4,15 +4,15 @@ use Rattle.semijoin.proofs.local.breaks_selection.Statement.{statement}
 use Rattle.semijoin.proofs.local.breaks_selection.Tie as tie
 use Rattle.semijoin.proofs.local.breaks_selection.Reads as reads
 use Rattle.semijoin.proofs.local.breaks_selection.Lts as lts
-use Rattle.semijoin.proofs.rows.word_or_zero.Reads as word-or-zero-reads
+use Rattle.tables.proofs.rows.word_at.Reads as word-at-reads
 
 -- src/local.rt:27:5
-word-or-zero-requires : tie.Need-word-or-zero-requires
-word-or-zero-requires c κs = search needs
+word-at-requires : tie.Need-word-at-requires
+word-at-requires c κs = search needs
 
 -- src/local.rt:23:1
 returns : tie.Need-returns
 returns c = search (unlike-by, needs)
 
 pub breaks-selection-spec : {M : Type 1} → statement M
-breaks-selection-spec = tie.close (tie.spec word-or-zero-requires returns)
+breaks-selection-spec = tie.close (tie.spec word-at-requires returns)

@@ -4,7 +4,7 @@ use Rattle.ground.specs.Searching.{someFrom}
 use Prim.Native.Nat.{_-_}
 use mathlib.Core.List.{[]}
 use lib.ListN.{getD}
-use Rattle.semijoin.specs.Extents.{rowsOver}
+use Rattle.tables.specs.Offsets.{rowsOver}
 use Rattle.paths.specs.Implied.{equal}
 use Rattle.semijoin.proofs.LocalCodeLaws.{breaksEqual}
 use borrow.Author.Needs.{needs}

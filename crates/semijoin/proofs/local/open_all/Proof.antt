@@ -2,7 +2,7 @@ use Rattle.contents.specs.Parts.{relationCount}
 use Prim.Native.Nat.{_<_, _-_}
 use mathlib.Core.Bool.{false}
 use lib.ListN.{getD}
-use Rattle.semijoin.proofs.SieveCodeLaws.{words-there, marks-there}
+use Rattle.tables.proofs.ShapeLaws.{words-there, marks-there}
 use Rattle.semijoin.proofs.LocalCodeLaws.{OpeningAll, opening-all-start, opening-all-more, opening-all-done}
 use borrow.Author.Needs.{needs}
 use native.Mathlib.Omega.{arith}
@@ -15,7 +15,7 @@ use Rattle.paths.proofs.implied.equalities_by.Reads as equalities-by-reads
 use Rattle.paths.proofs.implied.selections_by.Reads as selections-by-reads
 use Rattle.paths.proofs.labels.labels_of.Reads as labels-of-reads
 use Rattle.semijoin.proofs.local.open_rows.Reads as open-rows-reads
-use Rattle.semijoin.proofs.offsets.extent_of.Reads as extent-of-reads
+use Rattle.tables.proofs.offsets.extent_of.Reads as extent-of-reads
 
 abbrev Inv-loop : tie.InvT-loop
 Inv-loop envelope tables marks₀ here labels end relation₀ marks relation = OpeningAll envelope tables (λ r. getD here r false) marks₀ end relation marks

@@ -1,6 +1,6 @@
 use mathlib.Core.Bool.{false}
 use lib.ListN.{getD}
-use Rattle.semijoin.proofs.JudgedLaws.{marks-shaped, marks-room}
+use Rattle.tables.proofs.JudgedLaws.{marks-shaped, marks-room}
 use Rattle.semijoin.proofs.CallCodeLaws.{open-within, open-envelope, open-refused, open-taken}
 use borrow.Author.Needs.{needs}
 use Rattle.semijoin.proofs.local.open_marks.Statement.{statement}
@@ -9,7 +9,7 @@ use Rattle.semijoin.proofs.local.open_marks.Reads as reads
 use Rattle.semijoin.proofs.local.open_marks.Lts as lts
 use Rattle.envelopes.proofs.reading.check_envelope.Reads as check-envelope-reads
 use Rattle.semijoin.proofs.local.open_all.Reads as open-all-reads
-use Rattle.semijoin.proofs.shape.judge_marks.Reads as judge-marks-reads
+use Rattle.tables.proofs.shape.judge_marks.Reads as judge-marks-reads
 
 -- src/local.rt:148:9
 check-envelope-requires : tie.Need-check-envelope-requires

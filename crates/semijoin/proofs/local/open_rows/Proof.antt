@@ -1,4 +1,4 @@
-use Rattle.semijoin.specs.Extents.{openingMark}
+use Rattle.semijoin.specs.Local.{openingMark}
 use Prim.Native.Nat.{_-_}
 use lib.ListN.{take}
 use Rattle.semijoin.proofs.LocalCodeLaws.{Opening, opening-start, opening-more, opening-done}

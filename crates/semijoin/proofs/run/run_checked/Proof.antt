@@ -1,5 +1,5 @@
 use native.Mathlib.Omega.{arith}
-use Rattle.semijoin.proofs.JudgedLaws.{marks-shaped, marks-room}
+use Rattle.tables.proofs.JudgedLaws.{marks-shaped, marks-room}
 use Rattle.semijoin.proofs.RunCodeLaws.{run-refused, run-whole, legal-used}
 use borrow.Author.Needs.{needs}
 use Rattle.semijoin.proofs.run.run_checked.Statement.{statement}
@@ -8,7 +8,7 @@ use Rattle.semijoin.proofs.run.run_checked.Reads as reads
 use Rattle.semijoin.proofs.run.run_checked.Lts as lts
 use Rattle.semijoin.proofs.local.open_all.Reads as open-all-reads
 use Rattle.semijoin.proofs.run.take_steps.Reads as take-steps-reads
-use Rattle.semijoin.proofs.shape.judge_marks.Reads as judge-marks-reads
+use Rattle.tables.proofs.shape.judge_marks.Reads as judge-marks-reads
 
 -- src/run.rt:88:9
 judge-marks-requires : tie.Need-judge-marks-requires

@@ -4,7 +4,7 @@ use Rattle.station.proofs.ends.usable_end.Statement.{statement}
 use Rattle.station.proofs.ends.usable_end.Tie as tie
 use Rattle.station.proofs.ends.usable_end.Reads as reads
 use Rattle.station.proofs.ends.usable_end.Lts as lts
-use Rattle.semijoin.proofs.shape.judge_marks.Reads as judge-marks-reads
+use Rattle.tables.proofs.shape.judge_marks.Reads as judge-marks-reads
 use Rattle.station.proofs.ends.refused_end.Reads as refused-end-reads
 use Rattle.station.proofs.ends.sound_end.Reads as sound-end-reads
 

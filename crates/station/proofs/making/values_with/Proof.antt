@@ -5,7 +5,7 @@ use Rattle.station.proofs.making.values_with.Statement.{statement}
 use Rattle.station.proofs.making.values_with.Tie as tie
 use Rattle.station.proofs.making.values_with.Reads as reads
 use Rattle.station.proofs.making.values_with.Lts as lts
-use Rattle.semijoin.proofs.values.values_into.Reads as values-into-reads
+use Rattle.tables.proofs.values.values_into.Reads as values-into-reads
 use Rattle.station.proofs.making.judge_sending.Reads as judge-sending-reads
 use Rattle.station.proofs.making.sends_step.Reads as sends-step-reads
 use Rattle.station.proofs.messages.put_front.Reads as put-front-reads

@@ -5,7 +5,7 @@ use Rattle.station.proofs.opening.open_with.Tie as tie
 use Rattle.station.proofs.opening.open_with.Reads as reads
 use Rattle.station.proofs.opening.open_with.Lts as lts
 use Rattle.semijoin.proofs.local.open_marks.Reads as open-marks-reads
-use Rattle.semijoin.proofs.shape.is_shaped.Reads as is-shaped-reads
+use Rattle.tables.proofs.shape.is_shaped.Reads as is-shaped-reads
 use Rattle.station.proofs.opening.here_at.Reads as here-at-reads
 use Rattle.station.proofs.opening.refused_opening.Reads as refused-opening-reads
 use Rattle.station.proofs.opening.start_of.Reads as start-of-reads

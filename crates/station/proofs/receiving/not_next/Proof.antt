@@ -5,7 +5,7 @@ use Rattle.station.proofs.receiving.not_next.Statement.{statement}
 use Rattle.station.proofs.receiving.not_next.Tie as tie
 use Rattle.station.proofs.receiving.not_next.Reads as reads
 use Rattle.station.proofs.receiving.not_next.Lts as lts
-use Rattle.semijoin.proofs.rising.is_rising.Reads as is-rising-reads
+use Rattle.tables.proofs.rising.is_rising.Reads as is-rising-reads
 
 -- src/receiving.rt:97:37
 sub-is-rising : tie.Need-sub-is-rising

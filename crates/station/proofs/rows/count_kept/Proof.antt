@@ -1,6 +1,6 @@
 use Prim.Native.Nat.{_-_}
 use mathlib.Core.Logic.{⊎-elim}
-use Rattle.semijoin.specs.Extents.{keptOver}
+use Rattle.tables.specs.Rows.{keptOver}
 use Rattle.station.proofs.CountingLaws.{Counting, counting-start, counting-most, counting-done}
 use Rattle.station.proofs.RowCodeLaws.{kept-counted, kept-passed}
 use borrow.Author.Needs.{needs}
@@ -9,7 +9,7 @@ use Rattle.station.proofs.rows.count_kept.Statement.{statement}
 use Rattle.station.proofs.rows.count_kept.Tie as tie
 use Rattle.station.proofs.rows.count_kept.Reads as reads
 use Rattle.station.proofs.rows.count_kept.Lts as lts
-use Rattle.semijoin.proofs.rows.is_kept.Reads as is-kept-reads
+use Rattle.tables.proofs.rows.is_kept.Reads as is-kept-reads
 
 abbrev Inv-loop : tie.InvT-loop
 Inv-loop marks extent n₀ row₀ n row = Counting (keptOver extent marks) (extent .rows) row n

@@ -2,7 +2,7 @@ use Rattle.ground.proofs.PuttingLaws.{copying-length}
 use Prim.Native.Nat.{_-_, _<_}
 use mathlib.Core.List.{map}
 use lib.ListN.{length, take}
-use Rattle.semijoin.specs.Extents.{wordOver}
+use Rattle.tables.specs.Rows.{wordOver}
 use Rattle.ground.proofs.PuttingLaws.{Copying}
 use Rattle.station.proofs.RowCodeLaws.{row-start, row-more, row-place, row-done}
 use borrow.Author.Needs.{needs}
@@ -12,7 +12,7 @@ use Rattle.station.proofs.rows.put_row.Tie as tie
 use Rattle.station.proofs.rows.put_row.Reads as reads
 use Rattle.station.proofs.rows.put_row.Lts as lts
 use Rattle.ground.proofs.used.in_use.Reads as in-use-reads
-use Rattle.semijoin.proofs.rows.word_at.Reads as word-at-reads
+use Rattle.tables.proofs.rows.word_at.Reads as word-at-reads
 
 abbrev Inv-loop : tie.InvT-loop
 Inv-loop tables extent row count at message₀ numbers end i₀ p₀ message i p = Copying (map (wordOver extent tables row) (take count numbers)) message₀ at end i p message

@@ -8,7 +8,7 @@ use Rattle.station.proofs.rows.put_rows.Tie as tie
 use Rattle.station.proofs.rows.put_rows.Reads as reads
 use Rattle.station.proofs.rows.put_rows.Lts as lts
 use Rattle.ground.proofs.used.in_use.Reads as in-use-reads
-use Rattle.semijoin.proofs.rows.is_kept.Reads as is-kept-reads
+use Rattle.tables.proofs.rows.is_kept.Reads as is-kept-reads
 use Rattle.station.proofs.rows.put_row.Reads as put-row-reads
 
 abbrev Inv-loop : tie.InvT-loop

@@ -1,0 +1,109 @@
+-- What the calls on tables give: each refusal where it is due, and the effect where none is. The floors above go by these and
+-- unfold nothing.
+use mathlib.Core.Path.{_≡_, refl, ap, _∙_}
+use mathlib.Core.Bool.{true, false, not}
+use mathlib.Core.List.{List, [], _∷_, _++_, List·Memᴰ}
+use Prim.Native.Nat.{ℕ, _+_, _≤_, _<_}
+use lib.ListN.{length}
+use lib.Seq.{sets}
+use borrow.Author.Tests.{le-leb, lt-ltb, le-ltb}
+use Rattle.ground.specs.Outcome.{Outcome}
+use Rattle.ground.specs.Outcome.Outcome.{good, bad}
+use Rattle.ground.specs.Refusing.{Test, test, judged}
+use Rattle.fields.specs.Refusals.{wrongShape, tooShort, notOurs}
+use Rattle.entries.specs.declared.places.Place.{Place}
+use Rattle.contents.specs.declared.envelope.Envelope.{Envelope}
+use Rattle.paths.specs.Steps.{isPlace}
+use Rattle.tables.specs.Offsets.{countIn, rowCount, extentOf}
+use Rattle.tables.specs.Shape.{shaped, marksTests, columnTests}
+use Rattle.tables.specs.Rising.{among}
+use Rattle.tables.specs.Values.{valuesOf, risingValues, occursIn, roomTest, valuesOutcome, gatheredOf, gatheredIn}
+use Rattle.tables.specs.declared.offsets.Extent.{Extent}
+use Rattle.tables.specs.declared.values.Gathered.the-variants as g
+use Rattle.tables.proofs.JudgedLaws.{refusal-listed}
+
+-- ---- a call that begins with 10, 11: of any tests and effect behind them
+
+module _ {A : Type 0} (e : Envelope) (words : List ℕ) (n : ℕ) (ts : List Test) (o : Outcome A) where
+  pub first-shape : shaped e words ≡ false → judged (marksTests e words n ++ ts) o ≡ bad wrongShape 0
+  first-shape s = rw s
+
+  module _ (s : shaped e words ≡ true) where
+    pub then-marks : n < rowCount e words → judged (marksTests e words n ++ ts) o ≡ bad tooShort 0
+    then-marks h = rw (s, lt-ltb n (rowCount e words) h)
+
+    pub then-rest : rowCount e words ≤ n → judged (marksTests e words n ++ ts) o ≡ judged ts o
+    then-rest h = rw (s, le-ltb n (rowCount e words) h)
+
+-- ---- the values of a column
+
+module _ (e : Envelope) (a : Place) (words marks : List ℕ) (start : ℕ) (out : List ℕ) where
+  abbrev found : List ℕ
+  found = risingValues e words marks a
+
+  abbrev valuesTests : List Test
+  valuesTests = test (not (isPlace e a)) notOurs 0 ∷ roomTest (risingValues e words marks a) start out ∷ []
+
+  -- it refuses by 10, 11, 14, at 0
+  pub values-number : (n p : ℕ) → valuesOutcome e a words marks start out ≡ bad n p
+      → List·Memᴰ n (wrongShape ∷ tooShort ∷ notOurs ∷ tooShort ∷ []) × (p ≡ 0)
+  unfolding valuesOutcome
+  values-number n p h =
+      refusal-listed (columnTests e a words (length marks) ++ roomTest found start out ∷ []) found 0 n p (refl, (refl, (refl, (refl, tt)))) h
+
+  pub values-shapeless : shaped e words ≡ false → valuesOutcome e a words marks start out ≡ bad wrongShape 0
+  unfolding valuesOutcome
+  values-shapeless s = first-shape e words (length marks) valuesTests (good found 0) s
+
+  module _ (s : shaped e words ≡ true) where
+    pub values-unmarked : length marks < rowCount e words → valuesOutcome e a words marks start out ≡ bad tooShort 0
+    unfolding valuesOutcome
+    values-unmarked h = then-marks e words (length marks) valuesTests (good found 0) s h
+
+    module _ (h : rowCount e words ≤ length marks) where
+      pub values-nowhere : isPlace e a ≡ false → valuesOutcome e a words marks start out ≡ bad notOurs 0
+      unfolding valuesOutcome
+      values-nowhere c = then-rest e words (length marks) valuesTests (good found 0) s h ∙ rw c
+
+      module _ (c : isPlace e a ≡ true) where
+        pub values-narrow : length out < start + length (risingValues e words marks a)
+            → valuesOutcome e a words marks start out ≡ bad tooShort 0
+        unfolding valuesOutcome
+        values-narrow k =
+            then-rest e words (length marks) valuesTests (good found 0) s h ∙ rw (c, lt-ltb (length out) (start + length found) k)
+
+        module _ (k : start + length (risingValues e words marks a) ≤ length out) where
+          pub values-taken : valuesOutcome e a words marks start out ≡ good (risingValues e words marks a) 0
+          unfolding valuesOutcome
+          values-taken =
+              then-rest e words (length marks) valuesTests (good found 0) s h ∙ rw (c, le-ltb (length out) (start + length found) k)
+
+          pub values-length : gatheredOf (valuesOutcome e a words marks start out) ≡ g.Length (length (risingValues e words marks a))
+          unfolding gatheredOf
+          values-length = rw values-taken
+
+          pub values-buffer : gatheredIn start out (valuesOutcome e a words marks start out) ≡ sets out start (risingValues e words marks a)
+          unfolding gatheredIn
+          values-buffer = rw values-taken
+
+  -- a refusal, as it is answered
+  module _ (n p : ℕ) (h : valuesOutcome e a words marks start out ≡ bad n p) where
+    pub values-refused : gatheredOf (valuesOutcome e a words marks start out) ≡ g.Refused n p
+    unfolding gatheredOf
+    values-refused = rw h
+
+    pub values-stay : gatheredIn start out (valuesOutcome e a words marks start out) ≡ out
+    unfolding gatheredIn
+    values-stay = rw h
+
+-- a value occurs, where tables, marks and column are right, as it is among the column's values
+module _ (e : Envelope) (a : Place) (words marks : List ℕ) (x : ℕ) where
+  pub occurs-there : shaped e words ≡ true → rowCount e words ≤ length marks → isPlace e a ≡ true
+      → occursIn e a words marks x ≡ among (valuesOf e words marks a) x
+  unfolding occursIn
+  occurs-there s h c = rw (s, le-leb (rowCount e words) (length marks) h, c)
+
+-- ---- a relation, by its extent
+
+pub rows-by : (e : Envelope) (words : List ℕ) (x : Extent) (r : ℕ) → x ≡ extentOf e words r → x .rows ≡ countIn e words r
+rows-by e words x r f = ap (λ (y : Extent). y .rows) f

@@ -1,0 +1,160 @@
+-- General: what tests that were judged alone say of a call that begins with them. And what the tests of calls on tables and
+-- marks say where they pass.
+use mathlib.Core.Path.{_≡_, refl, sym, ap, _∙_}
+use mathlib.Core.Bool.{Bool, true, false, not, _||_, false≢true}
+use mathlib.Core.List.{List, [], _∷_, map, List·Memᴰ, List·Memᴰ·head, List·Memᴰ·tail}
+use mathlib.Core.Logic.{_↔_}
+use Prim.Native.Nat.{ℕ, _≤_, _<_}
+use native.Mathlib.Omega.{arith}
+use lib.Dec.{ltb}
+use borrow.Author.Tests.{ltb-false, lt-ltb, le-ltb, not-true, not-false}
+use Rattle.ground.specs.Tests.{pick}
+use Rattle.ground.specs.Lists.{Every}
+use Rattle.ground.specs.Outcome.{Outcome, verdictOf}
+use Rattle.ground.specs.Outcome.Outcome.{good, bad}
+use Rattle.ground.specs.Refusing.{Test, test, judged}
+use Rattle.ground.specs.declared.Verdict.{Verdict}
+use Rattle.ground.specs.declared.Verdict.the-variants.{Taken, Refused}
+use Rattle.ground.proofs.OutcomeLaws.{never, good-bad}
+use Rattle.ground.proofs.RefusingLaws.{someFail, judged-none}
+use Rattle.fields.specs.Refusals.{wrongShape, tooShort, notOurs}
+use Rattle.entries.specs.declared.places.Place.{Place}
+use Rattle.contents.specs.declared.envelope.Envelope.{Envelope}
+use Rattle.paths.specs.Steps.{isPlace}
+use Rattle.tables.specs.Offsets.{rowCount}
+use Rattle.tables.specs.Shape.{shaped, marksTests, columnTests, judgement}
+
+refused-by : {A : Type 0} (o : Outcome A) (ts : List Test) (m q : ℕ) → Refused m q ≡ judgement ts → judged ts o ≡ bad m q
+unfolding judgement verdictOf
+refused-by o [] m q h = let z : _≡_ {A = ℕ} 0 1 = cc in absurd (never z)
+refused-by {A} o (t ∷ ts) m q h = go (t .fails) h (refused-by o ts m q)
+  where
+    go : (b : Bool) → Refused m q ≡ verdictOf (pick b (bad (t .number) (t .position)) (judged ts (good (tt {0}) 0)))
+        → (Refused m q ≡ verdictOf (judged ts (good (tt {0}) 0)) → judged ts o ≡ bad m q)
+        → pick b (bad (t .number) (t .position)) (judged ts o) ≡ bad m q
+    go true h ih = cc
+    go false h ih = ih h
+
+taken-by : (ts : List Test) → Taken ≡ judgement ts → someFail ts ≡ false
+unfolding judgement verdictOf
+taken-by [] h = refl
+taken-by (t ∷ ts) h = go (t .fails) h (taken-by ts)
+  where
+    go : (b : Bool) → Taken ≡ verdictOf (pick b (bad (t .number) (t .position)) (judged ts (good (tt {0}) 0)))
+        → (Taken ≡ verdictOf (judged ts (good (tt {0}) 0)) → someFail ts ≡ false) → (b || someFail ts) ≡ false
+    go true h ih = let z : _≡_ {A = ℕ} 0 1 = cc in absurd (never z)
+    go false h ih = ih h
+
+module _ (ts : List Test) (v : Verdict) (g : v ≡ judgement ts) where
+  pub judge-refused : {A : Type 0} (o : Outcome A) (m q : ℕ) → v ≡ Refused m q → judged ts o ≡ bad m q
+  judge-refused o m q h = refused-by o ts m q (sym h ∙ g)
+
+  pub judge-passed : v ≡ Taken → someFail ts ≡ false
+  judge-passed h = taken-by ts (sym h ∙ g)
+
+  pub judge-taken : {A : Type 0} (o : Outcome A) → v ≡ Taken → judged ts o ≡ o
+  judge-taken o h = judged-none ts o (judge-passed h)
+
+-- where the effect is good and every test has position 0, a refusal has the number of a test, and position 0
+pub refusal-listed : {A : Type 0} (ts : List Test) (v : A) (p n q : ℕ) → Every (λ (t : Test). t .position ≡ 0) ts
+    → judged ts (good v p) ≡ bad n q → List·Memᴰ n (map (λ (t : Test). t .number) ts) × (q ≡ 0)
+refusal-listed [] v p n q z h = absurd (good-bad v p n q h)
+refusal-listed {A} (t ∷ ts) v p n q z h = go (t .fails) h (refusal-listed ts v p n q (z .1))
+  where
+    go : (b : Bool) → pick b (bad (t .number) (t .position)) (judged ts (good v p)) ≡ bad n q
+        → (judged ts (good v p) ≡ bad n q → List·Memᴰ n (map (λ (t : Test). t .number) ts) × (q ≡ 0))
+        → List·Memᴰ n (t .number ∷ map (λ (t : Test). t .number) ts) × (q ≡ 0)
+    go true h ih =
+        let same : n ≡ t .number = cc in
+        let place : q ≡ t .position = cc in
+        (List·Memᴰ·head same, place ∙ z .0)
+    go false h ih = let (m, e) = ih h in (List·Memᴰ·tail m, e)
+
+-- ---- tables, marks and a column that pass their tests
+
+two-pass : (a b : Bool) → (not a || (b || false)) ≡ false → (a ≡ true) × (b ≡ false)
+two-pass true true h = absurd (false≢true (sym h))
+two-pass true false h = (refl, refl)
+two-pass false b h = absurd (false≢true (sym h))
+
+three-pass : (a b d : Bool) → (not a || (b || (not d || false))) ≡ false → (a ≡ true) × (b ≡ false) × (d ≡ true)
+three-pass true true d h = absurd (false≢true (sym h))
+three-pass true false true h = (refl, refl, refl)
+three-pass true false false h = absurd (false≢true (sym h))
+three-pass false b d h = absurd (false≢true (sym h))
+
+module _ (e : Envelope) (words : List ℕ) (n : ℕ) where
+  pub marks-pass : (someFail (marksTests e words n) ≡ false) ↔ ((shaped e words ≡ true) × (rowCount e words ≤ n))
+  marks-pass = (
+    λ h. let p = two-pass (shaped e words) (ltb n (rowCount e words)) h in (p .0, ltb-false n (rowCount e words) (p .1)),
+    λ (s, k). rw (s, le-ltb n (rowCount e words) k),
+  )
+
+  pub column-pass : (a : Place)
+      → (someFail (columnTests e a words n) ≡ false) ↔ ((shaped e words ≡ true) × (rowCount e words ≤ n) × (isPlace e a ≡ true))
+  column-pass a = (
+    λ h.
+        let p = three-pass (shaped e words) (ltb n (rowCount e words)) (isPlace e a) h in
+        (p .0, ltb-false n (rowCount e words) (p .1), p .2),
+    λ (s, k, t). rw (s, le-ltb n (rowCount e words) k, t),
+  )
+
+  -- each by itself, of a verdict that was taken
+  module _ (v : Verdict) (h : v ≡ Taken) where
+    module _ (g : v ≡ judgement (marksTests e words n)) where
+      pub marks-shaped : shaped e words ≡ true
+      marks-shaped = marks-pass .0 (judge-passed (marksTests e words n) v g h) .0
+
+      pub marks-room : rowCount e words ≤ n
+      marks-room = marks-pass .0 (judge-passed (marksTests e words n) v g h) .1
+
+    module _ (a : Place) (g : v ≡ judgement (columnTests e a words n)) where
+      pub column-shaped : shaped e words ≡ true
+      column-shaped = column-pass a .0 (judge-passed (columnTests e a words n) v g h) .0
+
+      pub column-room : rowCount e words ≤ n
+      column-room = column-pass a .0 (judge-passed (columnTests e a words n) v g h) .1
+
+      pub column-place : isPlace e a ≡ true
+      column-place = column-pass a .0 (judge-passed (columnTests e a words n) v g h) .2
+
+-- ---- what the functions that judge answer
+
+module _ (e : Envelope) (words : List ℕ) (n : ℕ) (b : Bool) (f : b ≡ shaped e words) where
+  pub judge-shapeless : not b ≡ true → Refused wrongShape 0 ≡ judgement (marksTests e words n)
+  unfolding judgement verdictOf
+  judge-shapeless t = rw (← f, not-true b t)
+
+  module _ (m : ℕ) (g : m ≡ rowCount e words) (s : not b ≡ false) where
+    pub judge-short : n < m → Refused tooShort 0 ≡ judgement (marksTests e words n)
+    unfolding judgement verdictOf
+    judge-short h =
+        let k : n < rowCount e words = omega arith in
+        rw (← f, not-false b s, lt-ltb n (rowCount e words) k)
+
+    pub judge-whole : m ≤ n → Taken ≡ judgement (marksTests e words n)
+    unfolding judgement verdictOf
+    judge-whole h =
+        let k : rowCount e words ≤ n = omega arith in
+        rw (← f, not-false b s, le-ltb n (rowCount e words) k)
+
+module _ (e : Envelope) (a : Place) (words : List ℕ) (n : ℕ) (v : Verdict) (g : v ≡ judgement (marksTests e words n)) where
+  abbrev columnTest : Test
+  columnTest = test (not (isPlace e a)) notOurs 0
+
+  pub judge-before : (m q : ℕ) → v ≡ Refused m q → Refused m q ≡ judgement (columnTests e a words n)
+  unfolding judgement verdictOf
+  judge-before m q h = sym (ap verdictOf (judge-refused (marksTests e words n) v g (judged (columnTest ∷ []) (good (tt {0}) 0)) m q h))
+
+  module _ (h : v ≡ Taken) (b : Bool) (f : b ≡ isPlace e a) where
+    passed : judgement (columnTests e a words n) ≡ judgement (columnTest ∷ [])
+    unfolding judgement verdictOf
+    passed = ap verdictOf (judge-taken (marksTests e words n) v g (judged (columnTest ∷ []) (good (tt {0}) 0)) h)
+
+    pub judge-nowhere : not b ≡ true → Refused notOurs 0 ≡ judgement (columnTests e a words n)
+    unfolding judgement verdictOf
+    judge-nowhere t = sym (passed ∙ rw (← f, not-true b t))
+
+    pub judge-column : not b ≡ false → Taken ≡ judgement (columnTests e a words n)
+    unfolding judgement verdictOf
+    judge-column t = sym (passed ∙ rw (← f, not-false b t))

@@ -1,0 +1,34 @@
+-- "An end has one mark byte per true row of the lent tables, in table order; nonzero is kept." One row at an extent, its word and its
+-- mark; and the rows whose mark is kept: of one table, of a relation, of every relation.
+use Prim.Native.Nat.{ℕ}
+use mathlib.Core.Bool.{Bool, not}
+use mathlib.Core.List.{List, [], _∷_, map}
+use lib.ListN.{getD}
+use lib.Dec.{eqb}
+use Rattle.ground.specs.Lists.{consIf, below}
+use Rattle.contents.specs.Parts.{relationCount}
+use Rattle.contents.specs.declared.envelope.Envelope.{Envelope}
+use Rattle.paths.specs.Meaning.{Table, wordIn}
+use Rattle.tables.specs.Offsets.{rowsOver, marksOver, rowsAt, marksAt}
+use Rattle.tables.specs.declared.offsets.Extent.{Extent}
+
+abbrev pub isKept : ℕ → Bool
+isKept mark = not (eqb mark 0)
+
+-- the word of a row in a column, 0 where there is none; whether a row is kept, and none is that is not there
+abbrev pub wordOver : Extent → List ℕ → ℕ → ℕ → ℕ
+wordOver x words i c = wordIn (getD (rowsOver x words) i []) c
+
+abbrev pub keptOver : Extent → List ℕ → ℕ → Bool
+keptOver x marks i = isKept (getD (marksOver x marks) i 0)
+
+unfoldable pub keptOf : List ℕ → Table → Table
+keptOf [] rows = []
+keptOf (m ∷ ms) [] = []
+keptOf (m ∷ ms) (row ∷ rows) = consIf (isKept m) row (keptOf ms rows)
+
+unfoldable pub keptRows : Envelope → List ℕ → List ℕ → ℕ → Table
+keptRows e words marks r = keptOf (marksAt e words r marks) (rowsAt e words r)
+
+abbrev pub keptTables : Envelope → List ℕ → List ℕ → List Table
+keptTables e words marks = map (keptRows e words marks) (below (relationCount e))
