@@ -11,6 +11,7 @@ pub mod CombinationCodeLaws
 pub mod AnswerLaws
 pub mod AnswerCodeLaws
 pub mod StoreLaws
+pub mod HeldLaws
 pub mod WalkingLaws
 pub mod StoreCodeLaws
 pub mod AssemblyCodeLaws

@@ -113,7 +113,7 @@ module _ (x : End) (words : List ℕ) (n : ℕ) (c : PapersRead) (g : c ≡ show
         g ∙ ap shownPapers (papers-taken _ c g h ∙ sym (with-marks ∙ judge-taken (marksTests (c .papers .envelope) words n) v f _ t))
 
 -- what is known of the papers that come out
-sound-good-papers : (x : End) (q : Papers) (u : ℕ) → soundEnd x ≡ good q u → GoodPapers q
+pub sound-good-papers : (x : End) (q : Papers) (u : ℕ) → soundEnd x ≡ good q u → GoodPapers q
 unfolding soundEnd
 sound-good-papers x q u h =
     let (f, w, read, rest) = next-good (papersOf (x .envelope) (x .program)) _ q u h in
