@@ -1,7 +1,7 @@
 -- The numbers of a profile of an envelope that was taken have a bound in every place of the arrays, also in those that no
 -- column has: such an envelope holds zeros there.
 use mathlib.Core.Path.{_≡_, sym, ap, _∙_, subst}
-use Prim.Native.Nat.{ℕ, _-_, _/_, _%_, _≤_, zero-le}
+use Prim.Native.Nat.{_-_, _/_, _%_, _≤_, zero-le}
 use native.Mathlib.Nat.{le-trans}
 use native.Mathlib.Omega.{arith}
 use lib.ListN.{length, getD, replicate}
@@ -15,13 +15,13 @@ use Rattle.entries.specs.declared.relations.Column.{Column}
 use Rattle.entries.specs.declared.relations.Relation.{Relation}
 use Rattle.contents.specs.declared.envelope.Envelope.{Envelope}
 use Rattle.envelopes.proofs.TidyLaws.{tidy-relations}
-use Rattle.estimates.specs.Profile.{columnOf, given}
-use Rattle.estimates.specs.Ready.{Ready}
-use Rattle.estimates.specs.Ready.{Bounded}
+use Rattle.estimates.specs.Columns.{columnOf}
+use Rattle.estimates.specs.Profile.{given}
+use Rattle.estimates.specs.Ready.{Low, Ready, Bounded}
 use Rattle.estimates.specs.declared.profiles.Profile.{Profile}
 use Rattle.estimates.specs.declared.costs.Costs.{Costs}
 use Rattle.estimates.proofs.ProfileLaws.{Inside, getD-every, rows-most}
-use Rattle.estimates.proofs.CostLaws.{width-most}
+use Rattle.estimates.proofs.CostLaws.{widths-most}
 
 abbrev Few : Column → Type 0
 Few c = c .distinct ≤ 1000000
@@ -48,7 +48,7 @@ module _ (e : Envelope) (w : Within e) (t : tidy e ≡ e) where
       getD-every Few noColumn zero-le (getD (relationsOf e) (a .relation) pastRelation .columns)
       (getD-every (λ (r : Relation). Every Few (r .columns)) pastRelation tt (relationsOf e) relations-few (a .relation)) (a .column)
 
-  pub counts-most : (p : Profile) → Inside e p → (i : ℕ) → getD (p .counts) i 0 ≤ 1000000
+  pub counts-most : (p : Profile) → Inside e p → Low (p .counts)
   unfolding given
   counts-most p h i =
       le-trans (h .counts i)
@@ -56,11 +56,11 @@ module _ (e : Envelope) (w : Within e) (t : tidy e ≡ e) where
       (every-mapped (λ n. n ≤ 1000000) (λ j. columnOf e (record { relation = j / 8; column = j % 8 }) .distinct) (below 64)
       (every-of _ (below 64) (λ j _. distinct-most _))) i)
 
-pub inside-bounded : (k : Costs) (e : Envelope) (local : Profile) → Ready k e local → (p : Profile) → Inside e p → Bounded k e p
+pub inside-bounded : (k : Costs) (e : Envelope) (local : Profile) → Ready k e local → (p : Profile) → Inside e p → Bounded k p
 inside-bounded k e local ready p i =
     record {
       prices = ready .cheap;
       rows = rows-most e (ready .within) p i;
       counts = counts-most e (ready .within) (ready .tidied) p i;
-      widths = width-most e (ready .within);
+      widths = widths-most e (ready .within) p i;
     }

@@ -15,7 +15,9 @@ use Rattle.contents.specs.Sites.{siteOf}
 use Rattle.entries.specs.declared.relations.Column.{Column}
 use Rattle.contents.specs.declared.envelope.Envelope.{Envelope}
 use Rattle.paths.specs.declared.steps.Step.{Step}
-use Rattle.estimates.specs.Profile.{columnOf, widthOf, rowsOf, countOf, rowsAfter, benefit}
+use Rattle.estimates.specs.Columns.{columnOf}
+use Rattle.estimates.specs.Profile.{rowsOf, countOf, rowsAfter, benefit, widthAt}
+use Rattle.estimates.specs.Ready.{Cheap, Bounded}
 use Rattle.estimates.specs.Costs.{plainCosts, priced, stepCost, assemblyAt}
 use Rattle.estimates.specs.declared.profiles.Profile.{Profile}
 use Rattle.estimates.specs.declared.costs.Costs.{Costs}
@@ -38,9 +40,6 @@ plain-whole i out t h = rw (table-done 64 0 plainPrice i out t h)
 
 -- ---- one transfer
 
-abbrev pub Cheap : Costs → Type 0
-Cheap k = (i : ℕ) → getD (k .prices) i 0 ≤ 1
-
 module _ (k : Costs) (sender receiver size price : ℕ) (f : price ≡ getD (k .prices) (8 * sender + receiver) 0) where
   pub priced-small : Cheap k → size ≤ 2040000000 → size * price ≤ 2040000000
   priced-small c h = rw f (let g : size * getD (k .prices) (8 * sender + receiver) 0 ≤ 2040000000 * 1 = mul-le-mul h (c (8 * sender + receiver)) in omega (arith, g))
@@ -54,9 +53,9 @@ pub cost-size : (p : Profile) (s : Step) (count width : ℕ) → count ≡ count
     → count * width ≤ 255000000
 cost-size p s count width f h k = let l : width ≤ 255 = omega arith in rw f (mul-le-mul h l)
 
-pub sent-size : (e : Envelope) (p : Profile) (r rows width : ℕ) → rows ≡ rowsOf p r → width ≡ widthOf e r → rowsOf p r ≤ 1000000
-    → widthOf e r ≤ 2040 → rows * width ≤ 2040000000
-sent-size e p r rows width f g h k = rw (f, g) (mul-le-mul h k)
+pub sent-size : (p : Profile) (r rows width : ℕ) → rows ≡ rowsOf p r → width ≡ widthAt p r → rowsOf p r ≤ 1000000
+    → widthAt p r ≤ 2040 → rows * width ≤ 2040000000
+sent-size p r rows width f g h k = rw (f, g) (mul-le-mul h k)
 
 module _ (k : Costs) (e : Envelope) (p : Profile) where
   pub cost-is : (s : Step) (c : Column) (count sender receiver r : ℕ) → c ≡ columnOf e (s .right) → count ≡ countOf p (s .right)
@@ -68,21 +67,21 @@ module _ (k : Costs) (e : Envelope) (p : Profile) where
   -- ---- assembly
 
   abbrev pub sentTo : ℕ → ℕ → ℕ
-  sentTo site r = priced k (siteOf e r) site (rowsOf p r * widthOf e r)
+  sentTo site r = priced k (siteOf e r) site (rowsOf p r * widthAt p r)
 
-  pub sent-is : (site r rows width sender x : ℕ) → rows ≡ rowsOf p r → width ≡ widthOf e r → sender ≡ siteOf e r
+  pub sent-is : (site r rows width sender x : ℕ) → rows ≡ rowsOf p r → width ≡ widthAt p r → sender ≡ siteOf e r
       → x ≡ priced k sender site (rows * width) → x ≡ sentTo site r
   sent-is site r rows width sender x f g h w = w ∙ rw (f, g, h)
 
-  sent-small : Cheap k → ((r : ℕ) → rowsOf p r ≤ 1000000) → ((r : ℕ) → widthOf e r ≤ 2040) → (site r : ℕ) → sentTo site r ≤ 2040000000
+  sent-small : Bounded k p → (site r : ℕ) → sentTo site r ≤ 2040000000
   unfolding priced
-  sent-small c h w site r =
-      let g : rowsOf p r * widthOf e r * getD (k .prices) (8 * siteOf e r + site) 0 ≤ 1000000 * 2040 * 1 =
-      mul-le-mul (mul-le-mul (h r) (w r)) (c (8 * siteOf e r + site)) in
+  sent-small b site r =
+      let g : rowsOf p r * widthAt p r * getD (k .prices) (8 * siteOf e r + site) 0 ≤ 1000000 * 2040 * 1 =
+      mul-le-mul (mul-le-mul (b .rows r) (b .widths r)) (b .prices (8 * siteOf e r + site)) in
       omega (arith, g)
 
-  pub sent-few : Cheap k → ((r : ℕ) → rowsOf p r ≤ 1000000) → ((r : ℕ) → widthOf e r ≤ 2040) → (site r v : ℕ) → v ≡ sentTo site r → v ≤ 2040000000
-  sent-few c h w site r v g = rw g (sent-small c h w site r)
+  pub sent-few : Bounded k p → (site r v : ℕ) → v ≡ sentTo site r → v ≤ 2040000000
+  sent-few b site r v g = rw g (sent-small b site r)
 
 pub record Assembling (k : Costs) (e : Envelope) (p : Profile) (site end i total : ℕ) : Type 0 where
   pub within : i ≤ end
@@ -97,10 +96,9 @@ module _ (k : Costs) (e : Envelope) (p : Profile) (site end : ℕ) where
       record { within = omega arith; few = omega arith; used = u; small = omega arith; sum = summing-start 2040000000 (sentTo k e p site) (below end) }
 
   module _ (i total : ℕ) (a : Assembling k e p site end i total) where
-    pub assembling-more : Cheap k → ((r : ℕ) → rowsOf p r ≤ 1000000) → ((r : ℕ) → widthOf e r ≤ 2040) → i < end
-        → (v : ℕ) → v ≡ sentTo k e p site i → Assembling k e p site end (i + 1) (total + v)
-    assembling-more c h w l v g =
-        let m : v ≤ 2040000000 = sent-few k e p c h w site i v g in
+    pub assembling-more : Bounded k p → i < end → (v : ℕ) → v ≡ sentTo k e p site i → Assembling k e p site end (i + 1) (total + v)
+    assembling-more b l v g =
+        let m : v ≤ 2040000000 = sent-few k e p b site i v g in
         record {
           within = omega arith;
           few = a .few;
@@ -121,12 +119,12 @@ module _ (k : Costs) (e : Envelope) (p : Profile) (site end : ℕ) where
 -- ---- the benefit
 
 module _ (e : Envelope) (p : Profile) (s : Step) where
-  pub benefit-is : (width before after : ℕ) → width ≡ widthOf e (s .left .relation) → before ≡ rowsOf p (s .left .relation)
+  pub benefit-is : (width before after : ℕ) → width ≡ widthAt p (s .left .relation) → before ≡ rowsOf p (s .left .relation)
       → after ≡ rowsAfter e p s → width * (before - after) ≡ benefit e p s
   unfolding benefit
   benefit-is width before after f g h = rw (f, g, h)
 
-  pub lost-most : (width before after : ℕ) → width ≡ widthOf e (s .left .relation) → widthOf e (s .left .relation) ≤ 2040
+  pub lost-most : (width before after : ℕ) → width ≡ widthAt p (s .left .relation) → widthAt p (s .left .relation) ≤ 2040
       → before ≡ rowsOf p (s .left .relation) → rowsOf p (s .left .relation) ≤ 1000000 → width * (before - after) ≤ 2040000000
   lost-most width before after f h g k =
       let l : before - after ≤ 1000000 = omega arith in

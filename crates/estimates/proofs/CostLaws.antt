@@ -1,9 +1,9 @@
--- What a width, a benefit, a cost, assembly and a total can come to, with prices that have a bound; plain prices are at
+-- What a width, a cost and assembly can come to, with prices that have a bound; plain prices are at
 -- most 1.
 use mathlib.Core.Path.{_≡_, refl}
 use mathlib.Core.Bool.{Bool, true, false}
 use mathlib.Core.List.{List, [], _∷_, map, List·Memᴰ, List·Memᴰ·head, List·Memᴰ·tail}
-use Prim.Native.Nat.{ℕ, _+_, _*_, _-_, _/_, _%_, _≤_, _<_, zero-le}
+use Prim.Native.Nat.{ℕ, _+_, _*_, _/_, _%_, _≤_, _<_, zero-le}
 use native.Mathlib.Nat.{mul-le-mul, mul-le-mul-left}
 use native.Mathlib.Omega.{arith}
 use lib.ListN.{length, getD}
@@ -25,13 +25,15 @@ use Rattle.paths.specs.Steps.{isPlace, legal, LegalStep}
 use Rattle.paths.specs.declared.steps.Step.{Step}
 use Rattle.paths.proofs.LabelLaws.{in-place, columns-few}
 use Rattle.paths.proofs.StepLaws.{legal-step}
-use Rattle.estimates.specs.Profile.{columnOf, widthOf, rowsOf, rowsAfter, benefit}
+use Rattle.estimates.specs.Columns.{columnOf, widthOf}
+use Rattle.estimates.specs.Profile.{given, widthAt, rowsOf}
 use Rattle.estimates.specs.Costs.{plainCosts, priced, stepCost, assemblyAt}
-use Rattle.estimates.specs.Kind.{afterAll, total}
+use Rattle.estimates.specs.Kind.{afterAll}
 use Rattle.estimates.specs.Estimate.{kindOf}
+use Rattle.estimates.specs.Ready.{Cheap}
 use Rattle.estimates.specs.declared.profiles.Profile.{Profile}
 use Rattle.estimates.specs.declared.costs.Costs.{Costs}
-use Rattle.estimates.proofs.KindLaws.{good-after, total-good}
+use Rattle.estimates.proofs.KindLaws.{good-after}
 use Rattle.estimates.proofs.ProfileLaws.{Inside, getD-every, column-within, rows-most, count-most, step-inside}
 
 -- ---- general
@@ -40,7 +42,7 @@ sum-most : {A : Type 0} (f : A → ℕ) (b : ℕ) (l : List A) → ((x : A) → 
 sum-most f b [] h = zero-le
 sum-most f b (x ∷ l) h = omega (arith, h x (List·Memᴰ·head refl), sum-most f b l (λ y m. h y (List·Memᴰ·tail m)))
 
--- ---- widths and benefits
+-- ---- widths
 
 module _ (e : Envelope) (w : Within e) where
   -- a column of a relation, by number, is a column of the envelope
@@ -50,7 +52,7 @@ module _ (e : Envelope) (w : Within e) where
       (λ l. absurd (omega (arith, columns-outside e r l)))
       (λ l. in-place e (place r c) (omega (arith, w .relations)) h)
 
-  pub width-most : (r : ℕ) → widthOf e r ≤ 2040
+  width-most : (r : ℕ) → widthOf e r ≤ 2040
   unfolding widthOf keptColumns
   width-most r =
       omega (
@@ -62,12 +64,12 @@ module _ (e : Envelope) (w : Within e) where
         columns-few e r,
       )
 
-  module _ (p : Profile) (i : Inside e p) where
-    pub benefit-most : (s : Step) → benefit e p s ≤ 2040000000
-    unfolding benefit
-    benefit-most s =
-        let less : rowsOf p (s .left .relation) - rowsAfter e p s ≤ 1000000 = omega (arith, rows-most e w p i (s .left .relation)) in
-        mul-le-mul (width-most (s .left .relation)) less
+  pub widths-most : (p : Profile) → Inside e p → (r : ℕ) → widthAt p r ≤ 2040
+  unfolding given
+  widths-most p i r =
+      rw (i .widths)
+      (getD-every (λ n. n ≤ 2040) 0 zero-le (map (widthOf e) (below 8))
+      (every-mapped (λ n. n ≤ 2040) (widthOf e) (below 8) (every-of _ (below 8) (λ s _. width-most s))) r)
 
   -- ---- costs, with prices at most m
 
@@ -88,16 +90,10 @@ module _ (e : Envelope) (w : Within e) where
         let few : length (below (relationCount e)) ≤ 8 = omega (arith, below-length (relationCount e)) in
         omega (
           arith,
-          sum-most (λ r. priced k (siteOf e r) site (rowsOf p r * widthOf e r)) (2040000000 * m) (below (relationCount e))
-              (λ r _. priced-most 2040000000 _ _ _ (mul-le-mul (rows-most e w p i r) (width-most r))),
+          sum-most (λ r. priced k (siteOf e r) site (rowsOf p r * widthAt p r)) (2040000000 * m) (below (relationCount e))
+              (λ r _. priced-most 2040000000 _ _ _ (mul-le-mul (rows-most e w p i r) (widths-most p i r))),
           mul-le-mul-left (2040000000 * m) few,
         )
-
-    pub total-most : (site : ℕ) (p : Profile) (ss : List Step) → Inside e p → Every (λ (s : Step). legal e s ≡ true) ss
-        → total (kindOf k e) p site ss ≤ 255000000 * m * length ss + 16320000000 * m
-    total-most site p ss i t =
-        total-good (kindOf k e) (Inside e) (λ (s : Step). legal e s ≡ true) (λ q s j u. step-inside e w q j s u)
-        (255000000 * m) (16320000000 * m) site cost-most (assembly-most site) p ss i t
 
   -- the profile behind a program of legal steps
   pub after-inside : (k : Costs) (p : Profile) (ss : List Step) → Inside e p → Every (λ (s : Step). legal e s ≡ true) ss
@@ -105,7 +101,7 @@ module _ (e : Envelope) (w : Within e) where
   after-inside k p ss i t =
       good-after (kindOf k e) (Inside e) (λ (s : Step). legal e s ≡ true) (λ q s j u. step-inside e w q j s u) p ss i t
 
-pub plain-most : (i : ℕ) → getD (plainCosts .prices) i 0 ≤ 1
+pub plain-most : Cheap plainCosts
 unfolding plainCosts
 plain-most i =
     getD-every (λ n. n ≤ 1) 0 zero-le (map (λ j. pick (eqb (j / 8) (j % 8)) 0 1) (below 64))

@@ -1,8 +1,8 @@
 -- Division: laws that hold whether it rounds down or up, so that what is proved with them stands when the rounding changes.
 use mathlib.Core.Path.{_≡_, refl}
 use mathlib.Core.Bool.{Bool, true, false}
-use Prim.Native.Nat.{ℕ, _*_, _/_, _≤_, _<_, zero-le}
-use native.Mathlib.Nat.{le-trans, mul-comm, mul-div-cancel, div-le-of-le-mul, div-mul-le-self, le-div-iff-mul-le}
+use Prim.Native.Nat.{ℕ, _*_, _/_, _≤_, zero-le}
+use native.Mathlib.Nat.{mul-comm, mul-div-cancel, div-le-of-le-mul}
 use native.Mathlib.Omega.{arith}
 use lib.Dec.{eqb}
 use borrow.Author.Tests.{eqb-false, ne-eqb}
@@ -29,17 +29,6 @@ over-most x y d h = go (eqb d 0)
     go : (b : Bool) → pick b 0 (x / d) ≤ y
     go true = zero-le
     go false = div-le-of-le-mul d (rw (mul-comm d y) h)
-
-pub over-more : (x y d : ℕ) → x ≤ y → over x d ≤ over y d
-unfolding over
-over-more x y d h = go (eqb d 0) refl
-  where
-    go : (b : Bool) → eqb d 0 ≡ b → pick b 0 (x / d) ≤ pick b 0 (y / d)
-    go true e = zero-le
-    go false e =
-        let n : d ≡ 0 → ⊥ = eqb-false d 0 e in
-        let l : 0 < d = omega arith in
-        le-div-iff-mul-le l .1 (le-trans (div-mul-le-self x d) h)
 
 -- what comes out even
 pub over-even : (y d : ℕ) → 1 ≤ d → over (y * d) d ≡ y

@@ -3,12 +3,12 @@ use mathlib.Core.Path.{_≡_, refl, ap, subst}
 use mathlib.Core.Bool.{true, _&&_}
 use mathlib.Core.List.{List, [], _∷_, map}
 use mathlib.Core.Logic.{_↔_}
-use Prim.Native.Nat.{ℕ, zero, suc, _+_, _≤_, _<_}
+use Prim.Native.Nat.{ℕ, zero, suc, _+_, _<_}
 use native.Mathlib.Nat.{le-of-suc-le-suc, not-suc-le-zero}
 use lib.ListN.{length, getD, take}
 use Rattle.ground.specs.Lists.{sum}
 use Rattle.ground.proofs.TestLaws.{and-left, and-right, and-both}
-use Rattle.ground.proofs.CollectingLaws.{padded-length, padded-take}
+use Rattle.ground.proofs.CollectingLaws.{padded-take}
 use Rattle.entries.specs.Places.{samePlace}
 use Rattle.contents.specs.declared.envelope.Envelope.{Envelope}
 use Rattle.papers.specs.Programs.{noStep}
@@ -16,11 +16,12 @@ use Rattle.paths.specs.declared.steps.Step.{Step}
 use Rattle.paths.proofs.PathLaws.{same-place, place-same}
 use Rattle.estimates.specs.Profile.{afterStep, benefit, localProfile}
 use Rattle.estimates.specs.Costs.{stepCost}
-use Rattle.estimates.specs.Kind.{afterAll, costs}
+use Rattle.estimates.specs.Kind.{afterAll, costs, total}
 use Rattle.estimates.specs.Estimate.{sameStep, kindOf, line, linesOf, costsIn, estimated}
 use Rattle.estimates.specs.declared.profiles.Profile.{Profile}
 use Rattle.estimates.specs.declared.costs.Costs.{Costs}
 use Rattle.estimates.specs.declared.lines.Line.{Line}
+use Rattle.estimates.specs.declared.lines.Estimate.{Estimate}
 use Rattle.estimates.proofs.KindLaws.{total-is}
 
 -- steps are the same exactly where they are equal
@@ -56,6 +57,11 @@ module _ (k : Costs) (e : Envelope) where
   lines-at p (s ∷ ss) zero z h = refl
   lines-at p (s ∷ ss) (suc i) z h = lines-at (afterStep e p s) ss i z (le-of-suc-le-suc h)
 
+  pub lines-steps : (p : Profile) (ss : List Step) → map (λ (l : Line). l .step) (linesOf k e p ss) ≡ ss
+  unfolding linesOf
+  lines-steps p [] = refl
+  lines-steps p (s ∷ ss) = ap (λ (l : List Step). s ∷ l) (lines-steps (afterStep e p s) ss)
+
   pub lines-costs : (p : Profile) (ss : List Step) → costsIn (linesOf k e p ss) ≡ costs (kindOf k e) p ss
   unfolding linesOf
   lines-costs p [] = refl
@@ -67,9 +73,10 @@ module _ (k : Costs) (e : Envelope) where
     estimated-lines =
         rw (lines-length (localProfile e) ss) at (padded-take 156 (line noStep 0 0) (linesOf k e (localProfile e) ss))
 
-    pub estimated-long : length ss ≤ 156 → length (estimated k e ss site .lines) ≡ 156
+    -- the total of an estimate, as something else gave it
+    pub estimated-whole : (x : Estimate) → x ≡ estimated k e ss site → x .total ≡ total (kindOf k e) (localProfile e) site ss
     unfolding estimated
-    estimated-long h = padded-length 156 (line noStep 0 0) (linesOf k e (localProfile e) ss) (rw (lines-length (localProfile e) ss) h)
+    estimated-whole x h = rw h
 
     whole : estimated k e ss site .total ≡ sum (costs (kindOf k e) (localProfile e) ss) + estimated k e ss site .assembly
     unfolding estimated

@@ -6,7 +6,6 @@ use Prim.Native.Nat.{ℕ, _+_, _≤_, _<_}
 use native.Mathlib.Omega.{arith}
 use lib.ListN.{getD, take, drop, set, replicate}
 use lib.Seq.{append-snoc}
-use Rattle.ground.specs.Lists.{sum}
 use Rattle.ground.specs.Outcome.{Outcome, next, nextOf, verdictOf}
 use Rattle.ground.specs.Outcome.Outcome.{good}
 use Rattle.ground.specs.declared.Verdict.the-variants.{Taken, Refused}
@@ -25,19 +24,18 @@ use Rattle.papers.proofs.ProgramCodeLaws.{program-taken, program-refused}
 use Rattle.papers.proofs.ExactPrograms.{program-bytes, program-exact}
 use Rattle.estimates.specs.Profile.{benefit, afterStep, localProfile}
 use Rattle.estimates.specs.Costs.{plainCosts, stepCost, assemblyAt}
-use Rattle.estimates.specs.Kind.{afterAll, costs, total}
-use Rattle.estimates.specs.Estimate.{kindOf, gone, line, linesOf, estimated, noEstimate, estimateOf}
+use Rattle.estimates.specs.Kind.{total}
+use Rattle.estimates.specs.Estimate.{kindOf, line, linesOf, estimated, noEstimate, estimateOf}
 use Rattle.estimates.specs.Ready.{Ready}
 use Rattle.estimates.specs.Ready.{Bounded, Shrinks}
 use Rattle.estimates.specs.declared.profiles.Profile.{Profile}
 use Rattle.estimates.specs.declared.costs.Costs.{Costs}
 use Rattle.estimates.specs.declared.lines.Line.{Line}
 use Rattle.estimates.specs.declared.lines.Estimate.{Estimate}
-use Rattle.estimates.specs.declared.totals.Gone.{Gone}
 use Rattle.estimates.proofs.CostLaws.{assembly-most, plain-most}
 use Rattle.estimates.proofs.KindLaws.{total-is}
 use Rattle.estimates.proofs.BoundCodeLaws.{inside-bounded}
-use Rattle.estimates.proofs.TotalCodeLaws.{Spending, spending-start, spending-more, spending-done, step-shrinks, rest, none-left}
+use Rattle.estimates.proofs.SpendingCodeLaws.{Spending, spending-start, spending-more, spending-done, step-shrinks, rest, none-left}
 
 -- ---- the loop over the steps: of n steps i are gone through, and stand in the lines
 
@@ -74,9 +72,12 @@ module _ (k : Costs) (e : Envelope) (local : Profile) (w : Ready k e local) wher
           assembly-most e (w .within) k 1 (w .cheap) site p (a .spending .inside),
         )
 
-    pub line-ready : i < n → Bounded k e p × Shrinks e p (getD steps i noStep)
+    pub now-bounded : Bounded k p
+    now-bounded = inside-bounded k e local w p (a .spending .inside)
+
+    pub line-ready : i < n → Bounded k p × Shrinks e p (getD steps i noStep)
     line-ready h = (
-      inside-bounded k e local w p (a .spending .inside),
+      now-bounded,
       step-shrinks k e local w steps n i p spent (a .spending) h,
     )
 
@@ -99,13 +100,11 @@ module _ (k : Costs) (e : Envelope) (local : Profile) (w : Ready k e local) wher
 
     estimating-done : n ≤ i → (site x : ℕ) → x ≡ assemblyAt k e p site
         → _≡_ {A = Estimate} (record { verdict = Taken; count = n; lines = lines; assembly = x; total = spent + x }) (estimated k e ss site)
-    unfolding estimated verdictOf linesOf gone
+    unfolding estimated verdictOf linesOf
     estimating-done h site x g =
         let m : linesOf k e (localProfile e) ss ≡ a .done =
         a .told ∙ rw (none-left k e local w steps n i p spent (a .spending) h) (append-nil (a .done)) in
-        let u : _≡_ {A = Gone} (record { profile = p; spent = spent }) (gone k e ss) = spending-done k e local w steps n i p spent (a .spending) h in
-        let q : afterAll (kindOf k e) (localProfile e) ss ≡ p = ap (λ (y : Gone). y .profile) (sym u) in
-        let s : sum (costs (kindOf k e) (localProfile e) ss) ≡ spent = ap (λ (y : Gone). y .spent) (sym u) in
+        let (q, s) = spending-done k e local w steps n i p spent (a .spending) h in
         rw (total-is (kindOf k e) (localProfile e) site ss, a .spending .whole, m, q, s, g, a .collected .array)
 
   pub estimated-through : (f : Program) (i : ℕ) (p : Profile) (spent : ℕ) (lines : List Line) → Estimating k e (f .steps) (f .count) i p spent lines

@@ -7,10 +7,11 @@ pub mod CostLaws
 pub mod EstimateLaws
 pub mod DivisionCodeLaws
 pub mod TableCodeLaws
+pub mod ColumnCodeLaws
 pub mod ProfileCodeLaws
 pub mod StepCodeLaws
 pub mod CostCodeLaws
 pub mod BoundCodeLaws
 pub mod LocalCodeLaws
-pub mod TotalCodeLaws
+pub mod SpendingCodeLaws
 pub mod EstimatorCodeLaws

@@ -29,6 +29,7 @@ use Rattle.paths.specs.declared.implied.Selections.{Selections}
 use Rattle.paths.proofs.ImpliedLaws.{selections-few, selections-by-labels}
 use Rattle.estimates.specs.Division.{over}
 use Rattle.estimates.specs.Profile.{rowsOf, countOf, given, shrunk, afterSelection, afterSelections, afterRelations, localProfile}
+use Rattle.estimates.specs.Ready.{Low}
 use Rattle.estimates.specs.declared.profiles.Profile.{Profile}
 use Rattle.estimates.proofs.ShortLaws.{Y-most}
 use Rattle.estimates.proofs.ProfileLaws.{getD-every, given-inside, rows-most}
@@ -36,9 +37,6 @@ use Rattle.estimates.proofs.StepCodeLaws.{over-itself}
 use Rattle.estimates.proofs.BoundCodeLaws.{counts-most}
 
 -- ---- numbers that have a bound
-
-abbrev pub Low : List ℕ → Type 0
-Low l = (i : ℕ) → getD l i 0 ≤ 1000000
 
 pub record Small (p : Profile) : Type 0 where
   pub rows : Low (p .rows)

@@ -3,8 +3,8 @@
 use mathlib.Core.Path.{_≡_, refl, sym, ap, _∙_, subst}
 use mathlib.Core.Bool.{Bool, true, false}
 use mathlib.Core.List.{List, [], _∷_, map, List·Memᴰ, Memᴰ·of-map}
-use Prim.Native.Nat.{ℕ, zero, suc, _+_, _*_, _/_, _%_, _^_, _≤_, _<_, zero-le}
-use native.Mathlib.Nat.{le-refl, le-trans, mul-le-mul, mul-le-mul-left, div-add-mod}
+use Prim.Native.Nat.{ℕ, zero, suc, _+_, _*_, _/_, _%_, _≤_, _<_, zero-le}
+use native.Mathlib.Nat.{le-refl, le-trans, mul-le-mul-left, div-add-mod}
 use native.Mathlib.Omega.{arith}
 use lib.ListN.{length, getD, set, length-map, length-set, List·getD-eq-default}
 use lib.Dec.{eqb}
@@ -13,16 +13,14 @@ use Rattle.ground.specs.Tests.{pick}
 use Rattle.ground.specs.Lists.{Every, below}
 use Rattle.ground.proofs.CountLaws.{split}
 use Rattle.ground.proofs.ListLaws.{getD-map}
-use Rattle.ground.proofs.EveryLaws.{every-map, every-mapped, every-of, every-at, every-getD, every-take}
+use Rattle.ground.proofs.EveryLaws.{every-map, every-mapped, every-of, every-at, every-getD}
 use Rattle.ground.proofs.NumbersLaws.{below-length, below-getD}
 use Rattle.ground.proofs.UsedLaws.{used-inside}
 use Rattle.entries.specs.Relations.{noColumn, pastRelation, columnsOf}
 use Rattle.entries.specs.Clauses.{domainOf}
 use Rattle.contents.specs.Parts.{sizesOf, relationsOf, clausesOf, relationCount}
 use Rattle.envelopes.specs.Rules.{ColumnWithin, RelationWithin, PlaceWithin, KindWithin, ClauseWithin, Within}
-use Rattle.envelopes.specs.Fits.{ColumnFits, RelationFits, Fits}
 use Rattle.entries.specs.declared.places.Place.{Place}
-use Rattle.entries.specs.declared.relations.Column.{Column}
 use Rattle.entries.specs.declared.relations.Relation.{Relation}
 use Rattle.entries.specs.declared.clauses.Clause.{Clause}
 use Rattle.entries.specs.declared.clauses.ClauseKind.{ClauseKind}
@@ -39,15 +37,17 @@ use Rattle.paths.proofs.LabelLaws.{place-node, place-within}
 use Rattle.paths.proofs.StepLaws.{legal-step}
 use Rattle.estimates.specs.Division.{over}
 use Rattle.estimates.specs.Short.{Y}
-use Rattle.estimates.specs.Profile.{columnOf, domainSize, rowsOf, countOf, given, shrunk, afterSelection, rowsAfter, countAfter, afterStep, afterSelections, afterRelations, localProfile}
+use Rattle.estimates.specs.Columns.{columnOf, domainSize}
+use Rattle.estimates.specs.Profile.{rowsOf, countOf, given, shrunk, afterSelection, remaining, rowsAfter, countAfter, afterStep, afterSelections, afterRelations, localProfile}
 use Rattle.estimates.specs.declared.profiles.Profile.{Profile}
 use Rattle.estimates.proofs.DivisionLaws.{over-none, over-some, over-most}
 use Rattle.estimates.proofs.ShortLaws.{Y-most}
 
--- at most what the envelope says, at every place
+-- at most what the envelope says, at every place, and of its widths
 pub record Inside (e : Envelope) (p : Profile) : Type 0 where
   pub rows : (r : ℕ) → rowsOf p r ≤ rowsOf (given e) r
   pub counts : (i : ℕ) → getD (p .counts) i 0 ≤ getD (given e .counts) i 0
+  pub widths : p .widths ≡ given e .widths
   pub long-rows : length (p .rows) ≡ 8
   pub long-counts : length (p .counts) ≡ 64
 
@@ -107,6 +107,7 @@ module _ (p : Profile) (a : Place) (n count : ℕ) (fewer : n ≤ rowsOf p (a .r
       record {
         rows = λ r. le-trans (set-less (p .rows) (a .relation) r n fewer) (h .rows r);
         counts = λ i. le-trans (counts-less i) (h .counts i);
+        widths = h .widths;
         long-rows = length-set (p .rows) (a .relation) n ∙ h .long-rows;
         long-counts = mapped-length new 64;
       }
@@ -120,6 +121,7 @@ module _ (e : Envelope) where
       record {
         rows = λ r. le-refl _;
         counts = λ i. le-refl _;
+        widths = refl;
         long-rows = mapped-length (λ r. getD (relationsOf e) r pastRelation .rows) 8;
         long-counts = mapped-length (λ i. columnOf e (record { relation = i / 8; column = i % 8 }) .distinct) 64;
       }
@@ -238,7 +240,7 @@ module _ (e : Envelope) (w : Within e) where
     -- ---- a legal step
 
     module _ (s : Step) (t : legal e s ≡ true) where
-      shrinks : (x : ℕ) → over (x * countOf p (s .right)) (domainSize e (s .left)) ≤ x
+      shrinks : (x : ℕ) → remaining e p s x ≤ x
       shrinks x =
           let l : LegalStep e s = legal-step e s t in
           over-most (x * countOf p (s .right)) x (domainSize e (s .left))
@@ -255,27 +257,3 @@ module _ (e : Envelope) (w : Within e) where
       pub step-inside : Inside e (afterStep e p s)
       unfolding afterStep
       step-inside = shrunk-inside p (s .left) (rowsAfter e p s) (countAfter e p s) rows-after count-after e i
-
--- in an array place behind a relation's columns a count is what stands in the struct, and fits as that does
-pub counts-fit : (e : Envelope) → Fits e → (p : Profile) → Inside e p → (i : ℕ) → getD (p .counts) i 0 < 2 ^ 32
-unfolding relationsOf columnOf given
-counts-fit e f p h i =
-    omega (
-      arith,
-      h .counts i,
-      getD-every (λ n. n < 2 ^ 32) 0 (omega arith) (given e .counts)
-          (every-mapped (λ n. n < 2 ^ 32) (λ j. columnOf e (record { relation = j / 8; column = j % 8 }) .distinct) (below 64)
-          (every-of _ (below 64) (λ j _. one (j / 8) (j % 8)))) i,
-    )
-  where
-    one : (r c : ℕ) → columnOf e (record { relation = r; column = c }) .distinct < 2 ^ 32
-    one r c =
-        getD-every (λ (x : Column). x .distinct < 2 ^ 32) noColumn (omega arith) (getD (relationsOf e) r pastRelation .columns)
-        (getD-every (λ (x : Relation). Every (λ (y : Column). y .distinct < 2 ^ 32) (x .columns)) pastRelation tt (relationsOf e)
-        (every-map RelationFits _ (relationsOf e)
-        (λ x g. every-map ColumnFits (λ (y : Column). y .distinct < 2 ^ 32) (x .columns) (λ y u. u .distinct) (g .columns))
-        (every-take RelationFits (e .«relation_count») (e .relations) (f .each))) r) c
-
--- two numbers of a profile, multiplied
-pub times-most : (x y : ℕ) → x ≤ 1000000 → y ≤ 1000000 → x * y ≤ 1000000000000
-times-most x y h k = mul-le-mul h k

@@ -3,13 +3,17 @@ use mathlib.Core.Path.{_≡_, _∙_}
 use Prim.Native.Nat.{ℕ, _*_, _≤_, zero-le}
 use native.Mathlib.Nat.{mul-le-mul, mul-le-mul-left}
 use native.Mathlib.Omega.{arith}
+use mathlib.Core.List.{List}
+use lib.ListN.{getD}
 use borrow.Author.Tests.{eq-eqb, ne-eqb}
 use Rattle.ground.proofs.CountLaws.{split}
 use Rattle.entries.specs.declared.places.Place.{Place}
 use Rattle.contents.specs.declared.envelope.Envelope.{Envelope}
 use Rattle.paths.specs.declared.steps.Step.{Step}
 use Rattle.estimates.specs.Division.{over}
-use Rattle.estimates.specs.Profile.{domainSize, rowsOf, countOf, shrunk, afterSelection, rowsAfter, countAfter, afterStep}
+use Rattle.estimates.specs.Columns.{domainSize}
+use Rattle.estimates.specs.Profile.{rowsOf, countOf, shrunk, afterSelection, remaining, rowsAfter, countAfter, afterStep}
+use Rattle.estimates.specs.Ready.{Low}
 use Rattle.estimates.specs.declared.profiles.Profile.{Profile}
 use Rattle.estimates.proofs.DivisionLaws.{over-none, over-most}
 
@@ -23,14 +27,22 @@ over-itself x d =
     (λ l. over-most x x d (omega (arith, mul-le-mul-left x l)))
     (λ l. let z : d ≡ 0 = omega arith in rw (z, over-none x) zero-le)
 
-module _ (e : Envelope) (p : Profile) (s : Step) (count size : ℕ) (f : count ≡ countOf p (s .right)) (g : size ≡ domainSize e (s .left)) where
-  pub rows-after-is : (rows r : ℕ) → rows ≡ rowsOf p (s .left .relation) → r ≡ over (rows * count) size → r ≡ rowsAfter e p s
-  unfolding rowsAfter
-  rows-after-is rows r h k = k ∙ rw (h, f, g)
+-- a number of a profile, as something else gave it
+pub low-at : (l : List ℕ) (i n : ℕ) → n ≡ getD l i 0 → Low l → n ≤ 1000000
+low-at l i n f h = rw f (h i)
 
-  pub count-after-is : (before r : ℕ) → before ≡ countOf p (s .left) → r ≡ over (before * count) size → r ≡ countAfter e p s
+module _ (e : Envelope) (p : Profile) (s : Step) where
+  pub remaining-is : (count size : ℕ) → count ≡ countOf p (s .right) → size ≡ domainSize e (s .left) → (n r : ℕ) → r ≡ over (n * count) size
+      → r ≡ remaining e p s n
+  remaining-is count size f g n r k = k ∙ rw (f, g)
+
+  pub rows-after-is : (rows r : ℕ) → rows ≡ rowsOf p (s .left .relation) → r ≡ remaining e p s rows → r ≡ rowsAfter e p s
+  unfolding rowsAfter
+  rows-after-is rows r h k = k ∙ rw h
+
+  pub count-after-is : (count r : ℕ) → count ≡ countOf p (s .left) → r ≡ remaining e p s count → r ≡ countAfter e p s
   unfolding countAfter
-  count-after-is before r h k = k ∙ rw (h, f, g)
+  count-after-is count r h k = k ∙ rw h
 
 module _ (p : Profile) (a : Place) (rows count n : ℕ) (f : rows ≡ rowsOf p (a .relation)) (g : count ≡ countOf p a) (h : n ≡ over rows count) where
   pub selection-most : rowsOf p (a .relation) ≤ 1000000 → n ≤ 1000000

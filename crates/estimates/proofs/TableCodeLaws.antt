@@ -2,14 +2,14 @@
 use mathlib.Core.Path.{_≡_, refl, sym, ap, _∙_}
 use mathlib.Core.List.{List, [], _∷_, _++_, map}
 use Prim.Native.Nat.{ℕ, _+_, _*_, _≤_, _<_}
-use native.Mathlib.Nat.{mul-add, mul-one, mul-le-mul-left, le-trans}
+use native.Mathlib.Nat.{mul-add, mul-one}
 use native.Mathlib.Omega.{arith}
 use lib.ListN.{length, getD, take, set, replicate, length-map}
 use lib.Seq.{take-all}
 use Rattle.ground.specs.Lists.{below, numbersFrom, padded, sum}
 use Rattle.ground.proofs.NumbersLaws.{below-length, map-below}
 use Rattle.ground.proofs.ListLaws.{sum-more}
-use Rattle.ground.proofs.CollectingLaws.{padded-nil, padded-length, padded-full, padded-push}
+use Rattle.ground.proofs.CollectingLaws.{padded-nil, padded-full, padded-push}
 
 -- i places are filled by f
 pub record Table {A : Type 0} (size : ℕ) (z : A) (f : ℕ → A) (i : ℕ) (out : List A) : Type 0 where
@@ -24,9 +24,6 @@ module _ {A : Type 0} (size : ℕ) (z : A) (f : ℕ → A) where
   module _ (i : ℕ) (out : List A) (t : Table size z f i out) where
     filled : length (map f (below i)) ≡ i
     filled = length-map (below i) f ∙ below-length i
-
-    pub table-length : length out ≡ size
-    table-length = ap length (t .same) ∙ padded-length size z (map f (below i)) (omega (arith, filled, t .within))
 
     pub table-more : i < size → (v : A) → v ≡ f i → Table size z f (i + 1) (set out i v)
     table-more h v e =
@@ -56,9 +53,6 @@ module _ {A : Type 0} (cap : ℕ) (f : A → ℕ) (l : List A) where
   summing-start = record { within = omega arith; same = refl; small = omega arith }
 
   module _ (i total : ℕ) (s : Summing cap f l i total) where
-    pub summing-small : (n : ℕ) → i ≤ n → total ≤ cap * n
-    summing-small n h = le-trans (s .small) (mul-le-mul-left cap h)
-
     pub summing-more : (d : A) → i < length l → (v : ℕ) → v ≡ f (getD l i d) → v ≤ cap → Summing cap f l (i + 1) (total + v)
     summing-more d h v e m =
         let w : cap * (i + 1) ≡ cap * i + cap = mul-add cap i 1 ∙ rw (mul-one cap) in

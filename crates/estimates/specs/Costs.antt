@@ -10,7 +10,8 @@ use Rattle.contents.specs.Parts.{relationCount}
 use Rattle.contents.specs.Sites.{siteOf}
 use Rattle.contents.specs.declared.envelope.Envelope.{Envelope}
 use Rattle.paths.specs.declared.steps.Step.{Step}
-use Rattle.estimates.specs.Profile.{columnOf, widthOf, rowsOf, countOf}
+use Rattle.estimates.specs.Columns.{columnOf}
+use Rattle.estimates.specs.Profile.{rowsOf, countOf, widthAt}
 use Rattle.estimates.specs.declared.profiles.Profile.{Profile}
 use Rattle.estimates.specs.declared.costs.Costs.{Costs}
 
@@ -26,4 +27,4 @@ stepCost k e p s =
     priced k (siteOf e (s .right .relation)) (siteOf e (s .left .relation)) (countOf p (s .right) * columnOf e (s .right) .width)
 
 unfoldable pub assemblyAt : Costs → Envelope → Profile → ℕ → ℕ
-assemblyAt k e p site = sum (map (λ r. priced k (siteOf e r) site (rowsOf p r * widthOf e r)) (below (relationCount e)))
+assemblyAt k e p site = sum (map (λ r. priced k (siteOf e r) site (rowsOf p r * widthAt p r)) (below (relationCount e)))

@@ -4,7 +4,7 @@ use mathlib.Core.Bool.{Bool, _&&_}
 use mathlib.Core.List.{List, [], _∷_, map}
 use Prim.Native.Nat.{ℕ}
 use lib.ListN.{length, replicate}
-use Rattle.ground.specs.Lists.{padded, sum}
+use Rattle.ground.specs.Lists.{padded}
 use Rattle.ground.specs.Outcome.{Outcome, verdictOf}
 use Rattle.ground.specs.Outcome.Outcome.{good, bad}
 use Rattle.entries.specs.Places.{samePlace}
@@ -14,10 +14,9 @@ use Rattle.paths.specs.declared.steps.Step.{Step}
 use Rattle.papers.specs.declared.programs.Program.{Program}
 use Rattle.estimates.specs.Profile.{benefit, afterStep, localProfile}
 use Rattle.estimates.specs.Costs.{plainCosts, stepCost, assemblyAt}
-use Rattle.estimates.specs.Kind.{Kind, afterAll, costs, total}
+use Rattle.estimates.specs.Kind.{Kind, afterAll, total}
 use Rattle.estimates.specs.declared.profiles.Profile.{Profile}
 use Rattle.estimates.specs.declared.costs.Costs.{Costs}
-use Rattle.estimates.specs.declared.totals.Gone.{Gone}
 use Rattle.estimates.specs.declared.lines.Line.{Line}
 use Rattle.estimates.specs.declared.lines.Estimate.{Estimate}
 
@@ -35,11 +34,6 @@ kindOf k e =
       assembly = assemblyAt k e;
       same = sameStep;
     }
-
--- what the steps of a program leave behind local operations, and what they cost
-unfoldable pub gone : Costs → Envelope → List Step → Gone
-gone k e ss =
-    record { profile = afterAll (kindOf k e) (localProfile e) ss; spent = sum (costs (kindOf k e) (localProfile e) ss) }
 
 -- ---- a program at a site
 

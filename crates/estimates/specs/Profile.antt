@@ -1,36 +1,24 @@
 -- "Selection A = k: rows N/d where d is A's distinct count, 0 if d is 0; A's count becomes 1, or 0 with no rows; each other
 -- column's count c becomes Y(c, N, new rows). Implied selections go in order of relation, column, value."
 -- "Step R<A=B]S: rows N×s/D, s the distinct count of S.B, D the domain size; A's count a becomes a×s/D; others by Y."
--- "Width of a relation: the sum of its kept columns' widths. Benefit: width times rows lost."
+-- "Benefit: width times rows lost."
 use Prim.Native.Nat.{ℕ, _+_, _*_, _-_, _/_, _%_}
 use mathlib.Core.List.{List, [], _∷_, map}
 use lib.ListN.{getD, set}
 use lib.Dec.{eqb}
 use Rattle.ground.specs.Tests.{pick}
-use Rattle.ground.specs.Lists.{below, sum}
-use Rattle.entries.specs.Relations.{noColumn, pastRelation}
-use Rattle.contents.specs.Parts.{relationsOf, sizesOf, relationCount}
-use Rattle.contents.specs.Kept.{keptColumns}
+use Rattle.ground.specs.Lists.{below}
+use Rattle.entries.specs.Relations.{pastRelation}
+use Rattle.contents.specs.Parts.{relationsOf, relationCount}
 use Rattle.entries.specs.declared.places.Place.{Place}
-use Rattle.entries.specs.declared.relations.Column.{Column}
 use Rattle.contents.specs.declared.envelope.Envelope.{Envelope}
 use Rattle.paths.specs.Implied.{impliedSelections}
 use Rattle.paths.specs.declared.steps.Step.{Step}
 use Rattle.paths.specs.declared.implied.Selected.{Selected}
 use Rattle.estimates.specs.Division.{over}
 use Rattle.estimates.specs.Short.{Y}
+use Rattle.estimates.specs.Columns.{columnOf, domainSize, widthOf}
 use Rattle.estimates.specs.declared.profiles.Profile.{Profile}
-
--- ---- what the envelope says of a column
-
-unfoldable pub columnOf : Envelope → Place → Column
-columnOf e a = getD (getD (relationsOf e) (a .relation) pastRelation .columns) (a .column) noColumn
-
-unfoldable pub domainSize : Envelope → Place → ℕ
-domainSize e a = getD (sizesOf e) (columnOf e a .domain) 0
-
-unfoldable pub widthOf : Envelope → ℕ → ℕ
-widthOf e r = sum (map (λ c. columnOf e (record { relation = r; column = c }) .width) (keptColumns e r))
 
 -- ---- a profile
 
@@ -40,12 +28,16 @@ rowsOf p r = getD (p .rows) r 0
 abbrev pub countOf : Profile → Place → ℕ
 countOf p a = getD (p .counts) (8 * a .relation + a .column) 0
 
--- the envelope's own estimates
+abbrev pub widthAt : Profile → ℕ → ℕ
+widthAt p r = getD (p .widths) r 0
+
+-- the envelope's own estimates, and the width of each relation, which nothing changes
 unfoldable pub given : Envelope → Profile
 given e =
     record {
       rows = map (λ r. getD (relationsOf e) r pastRelation .rows) (below 8);
       counts = map (λ k. columnOf e (record { relation = k / 8; column = k % 8 }) .distinct) (below 64);
+      widths = map (widthOf e) (below 8);
     }
 
 -- relation r with n rows and one column with a new count; each other column of it by Y
@@ -60,23 +52,28 @@ shrunk p a n count =
           (pick (eqb (k % 8) (a .column)) count (Y (getD (p .counts) k 0) (rowsOf p (a .relation)) n))
           (getD (p .counts) k 0))
           (below 64);
+      widths = p .widths;
     }
 
 unfoldable pub afterSelection : Profile → Place → Profile
 afterSelection p a = let n = over (rowsOf p (a .relation)) (countOf p a) in shrunk p a n (pick (eqb n 0) 0 1)
 
--- the rows and the left count that a step leaves
+-- what a step leaves of a number n of its left relation: n×s/D
+abbrev pub remaining : Envelope → Profile → Step → ℕ → ℕ
+remaining e p s n = over (n * countOf p (s .right)) (domainSize e (s .left))
+
+-- of its rows, and of its left count
 unfoldable pub rowsAfter : Envelope → Profile → Step → ℕ
-rowsAfter e p s = over (rowsOf p (s .left .relation) * countOf p (s .right)) (domainSize e (s .left))
+rowsAfter e p s = remaining e p s (rowsOf p (s .left .relation))
 
 unfoldable pub countAfter : Envelope → Profile → Step → ℕ
-countAfter e p s = over (countOf p (s .left) * countOf p (s .right)) (domainSize e (s .left))
+countAfter e p s = remaining e p s (countOf p (s .left))
 
 unfoldable pub afterStep : Envelope → Profile → Step → Profile
 afterStep e p s = shrunk p (s .left) (rowsAfter e p s) (countAfter e p s)
 
 unfoldable pub benefit : Envelope → Profile → Step → ℕ
-benefit e p s = widthOf e (s .left .relation) * (rowsOf p (s .left .relation) - rowsAfter e p s)
+benefit e p s = widthAt p (s .left .relation) * (rowsOf p (s .left .relation) - rowsAfter e p s)
 
 -- ---- local operations
 

@@ -3,12 +3,13 @@ use crate::profiles::Profile;
 use contents::envelope::Envelope;
 use paths::steps::Step;
 ghost use mathlib.Core.Path.{_≡_};
-ghost use Prim.Native.Nat.{ℕ, _+_, _*_, _/_, _%_, _≤_};
+ghost use Prim.Native.Nat.{_+_, _*_, _/_, _%_, _≤_};
 ghost use lib.Dec.{eqb};
 ghost use lib.ListN.{getD};
 ghost use Rattle.ground.specs.Tests.{pick};
 ghost use Rattle.contents.specs.Sites.{siteOf};
-ghost use Rattle.estimates.specs.Profile.{widthOf, rowsOf, rowsAfter, benefit};
+ghost use Rattle.estimates.specs.Profile.{rowsOf, widthAt, benefit};
+ghost use Rattle.estimates.specs.Ready.{Cheap, Low, Narrow, Bounded, Shrinks};
 ghost use Rattle.estimates.specs.Costs.{plainCosts, priced, stepCost, assemblyAt};
 
 // The price from site a to site b is prices[8 * a + b].
@@ -48,7 +49,7 @@ fn price_at(costs: Costs, sender: u8, receiver: u8) -> u64
 }
 
 fn priced(costs: Costs, sender: u8, receiver: u8, size: u64) -> u64
-    requires { ⌜ ((i : ℕ) → getD (costs .prices) i 0 ≤ 1) × (size ≤ 2040000000) ⌝ }
+    requires { ⌜ Cheap costs × (size ≤ 2040000000) ⌝ }
     ensures { λ r. ⌜ r ≡ priced costs sender receiver size ⌝ }
 {
     let price = price_at(costs, sender, receiver);
@@ -57,12 +58,12 @@ fn priced(costs: Costs, sender: u8, receiver: u8, size: u64) -> u64
 
 // What a step sends: the distinct values of its right column.
 pub(crate) fn step_cost(costs: Costs, envelope: Envelope, profile: Profile, step: Step) -> u64
-    requires { ⌜ ((i : ℕ) → getD (costs .prices) i 0 ≤ 1) × ((i : ℕ) → getD (profile .counts) i 0 ≤ 1000000) ⌝ }
+    requires { ⌜ Bounded costs profile ⌝ }
     ensures { λ r. ⌜ r ≡ stepCost costs envelope profile step ⌝ }
 {
     let left = step.left;
     let right = step.right;
-    let column = crate::profiles::column_of(envelope, right);
+    let column = crate::columns::column_of(envelope, right);
     let width = column.width as u64;
     let count = crate::profiles::count_at(profile, right);
     let sender = contents::sites::site_of(envelope, right.relation);
@@ -72,18 +73,18 @@ pub(crate) fn step_cost(costs: Costs, envelope: Envelope, profile: Profile, step
 
 // What one relation costs to be sent to a site.
 fn sent(costs: Costs, envelope: Envelope, profile: Profile, site: u8, relation: u8) -> u64
-    requires { ⌜ ((i : ℕ) → getD (costs .prices) i 0 ≤ 1) × ((i : ℕ) → getD (profile .rows) i 0 ≤ 1000000) × ((i : ℕ) → widthOf envelope i ≤ 2040) ⌝ }
-    ensures { λ r. ⌜ r ≡ priced costs (siteOf envelope relation) site (rowsOf profile relation * widthOf envelope relation) ⌝ }
+    requires { ⌜ Bounded costs profile ⌝ }
+    ensures { λ r. ⌜ r ≡ priced costs (siteOf envelope relation) site (rowsOf profile relation * widthAt profile relation) ⌝ }
 {
     let rows = crate::profiles::rows_at(profile, relation);
-    let width = crate::profiles::width_of(envelope, relation);
+    let width = crate::profiles::width_at(profile, relation);
     let sender = contents::sites::site_of(envelope, relation);
     priced(costs, sender, site, rows * width)
 }
 
 // What assembly at a site costs.
 pub fn assembly_at(costs: Costs, envelope: Envelope, profile: Profile, site: u8) -> u64
-    requires { ⌜ ((i : ℕ) → getD (costs .prices) i 0 ≤ 1) × ((i : ℕ) → getD (profile .rows) i 0 ≤ 1000000) × ((i : ℕ) → widthOf envelope i ≤ 2040) ⌝ }
+    requires { ⌜ Bounded costs profile ⌝ }
     ensures { λ r. ⌜ r ≡ assemblyAt costs envelope profile site ⌝ }
 {
     let end = ground::used::in_use(8, envelope.relation_count);
@@ -99,11 +100,11 @@ pub fn assembly_at(costs: Costs, envelope: Envelope, profile: Profile, site: u8)
 
 // What a step brings: width times rows lost.
 pub(crate) fn benefit(envelope: Envelope, profile: Profile, step: Step) -> u64
-    requires { ⌜ (((i : ℕ) → getD (profile .rows) i 0 ≤ 1000000) × ((i : ℕ) → getD (profile .counts) i 0 ≤ 1000000)) × ((i : ℕ) → widthOf envelope i ≤ 2040) × (rowsAfter envelope profile step ≤ rowsOf profile (step .left .relation)) ⌝ }
+    requires { ⌜ (Low (profile .rows) × Low (profile .counts)) × Narrow (profile .widths) × Shrinks envelope profile step ⌝ }
     ensures { λ r. ⌜ r ≡ benefit envelope profile step ⌝ }
 {
     let left = step.left;
-    let width = crate::profiles::width_of(envelope, left.relation);
+    let width = crate::profiles::width_at(profile, left.relation);
     let before = crate::profiles::rows_at(profile, left.relation);
     let after = crate::profiles::rows_after(envelope, profile, step);
     width * (before - after)

@@ -14,12 +14,11 @@ ghost use Rattle.papers.specs.Programs.{stepsOf, checkProgram, Acceptable};
 ghost use Rattle.estimates.specs.Profile.{benefit};
 ghost use Rattle.estimates.specs.Costs.{plainCosts, stepCost};
 ghost use Rattle.estimates.specs.Estimate.{line, estimated, noEstimate, estimateOf};
-ghost use Rattle.estimates.specs.Ready.{Ready};
-ghost use Rattle.estimates.specs.Ready.{Bounded, Shrinks};
+ghost use Rattle.estimates.specs.Ready.{Ready, Bounded, Shrinks};
 
 // A step with its benefit and its cost.
 pub fn line_of(costs: Costs, envelope: Envelope, profile: Profile, step: Step) -> Line
-    requires { ⌜ Bounded costs envelope profile × Shrinks envelope profile step ⌝ }
+    requires { ⌜ Bounded costs profile × Shrinks envelope profile step ⌝ }
     ensures { λ r. ⌜ r ≡ line step (benefit envelope profile step) (stepCost costs envelope profile step) ⌝ }
 {
     let benefit = crate::costs::benefit(envelope, profile, step);

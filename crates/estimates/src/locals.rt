@@ -4,16 +4,15 @@ use contents::envelope::Envelope;
 use entries::places::Place;
 use paths::labels::Labels;
 ghost use mathlib.Core.Path.{_≡_};
-ghost use Prim.Native.Nat.{ℕ, _≤_};
-ghost use lib.ListN.{getD};
 ghost use Rattle.envelopes.specs.Rules.{Within, tidy};
 ghost use Rattle.paths.specs.Labels.{byLabels};
 ghost use Rattle.paths.specs.Implied.{selectionsBy};
+ghost use Rattle.estimates.specs.Ready.{Low};
 ghost use Rattle.estimates.specs.Profile.{afterSelections, localProfile};
 
 // The implied selections of a relation, by the labels of an envelope.
 fn after_selections(envelope: Envelope, labels: Labels, profile: Profile, relation: u8) -> Profile
-    requires { ⌜ Within envelope × ((i : ℕ) → getD (profile .rows) i 0 ≤ 1000000) × ((i : ℕ) → getD (profile .counts) i 0 ≤ 1000000) ⌝ }
+    requires { ⌜ Within envelope × Low (profile .rows) × Low (profile .counts) ⌝ }
     ensures { λ r. ⌜ r ≡ afterSelections profile relation (selectionsBy (byLabels (labels .of) envelope) envelope relation) ⌝ }
 {
     let selections = paths::implied::selections_by(envelope, labels, relation);

@@ -1,87 +1,25 @@
-// A profile: the estimated rows of each relation and the distinct count of each column. And what the envelope says of a
-// column; whatever struct comes in has an answer.
+// A profile: the estimated rows of each relation and the distinct count of each column, and the width of each relation.
+// Whatever struct comes in has an answer.
 use contents::envelope::Envelope;
 use entries::places::Place;
 use entries::relations::Column;
 use entries::relations::Relation;
 use paths::steps::Step;
 ghost use mathlib.Core.Path.{_≡_};
-ghost use Prim.Native.Nat.{ℕ, _/_, _%_, _≤_, _<_};
+ghost use Prim.Native.Nat.{_/_, _%_, _≤_, _<_};
 ghost use lib.ListN.{getD, set};
-ghost use Rattle.entries.specs.Relations.{noColumn, pastRelation};
+ghost use Rattle.entries.specs.Relations.{pastRelation};
 ghost use Rattle.entries.specs.Places.{place};
 ghost use Rattle.contents.specs.Parts.{relationsOf};
-ghost use Rattle.estimates.specs.Profile.{columnOf, domainSize, widthOf, rowsOf, countOf, given, shrunk, afterSelection, rowsAfter, countAfter, afterStep};
+ghost use Rattle.estimates.specs.Columns.{columnOf};
+ghost use Rattle.estimates.specs.Profile.{rowsOf, countOf, widthAt, given, shrunk, afterSelection, remaining, rowsAfter, countAfter, afterStep};
+ghost use Rattle.estimates.specs.Ready.{Low};
 
-// Relation r has rows[r]; its column c has counts[8 * r + c].
+// Relation r has rows[r], its column c has counts[8 * r + c]. Its width, widths[r], stays as it is.
 pub struct Profile {
     pub rows: [u64; 8],
     pub counts: [u64; 64],
-}
-
-fn no_column() -> Column
-    ensures { λ r. ⌜ r ≡ noColumn ⌝ }
-{
-    Column {
-        domain: 0,
-        width: 0,
-        distinct: 0,
-    }
-}
-
-fn column_in(relations: [Relation; 8], place: Place) -> Column
-    ensures { λ r. ⌜ r ≡ getD (getD relations (place .relation) pastRelation .columns) (place .column) noColumn ⌝ }
-{
-    let i = place.relation as usize;
-    if 8 <= i {
-        return no_column();
-    }
-    let relation = relations[i];
-    let columns = relation.columns;
-    entries::relations::column_at(columns, place.column as usize)
-}
-
-pub(crate) fn column_of(envelope: Envelope, place: Place) -> Column
-    ensures { λ r. ⌜ r ≡ columnOf envelope place ⌝ }
-{
-    let relations = envelope.relations;
-    if place.relation < envelope.relation_count {
-        column_in(relations, place)
-    } else {
-        no_column()
-    }
-}
-
-pub(crate) fn domain_size(envelope: Envelope, place: Place) -> u32
-    ensures { λ r. ⌜ r ≡ domainSize envelope place ⌝ }
-{
-    let sizes = envelope.sizes;
-    let column = column_of(envelope, place);
-    let i = column.domain as usize;
-    if ground::used::in_use(16, envelope.domain_count) <= i {
-        return 0;
-    }
-    sizes[i]
-}
-
-pub(crate) fn width_of(envelope: Envelope, relation: u8) -> u64
-    ensures { λ r. ⌜ r ≡ widthOf envelope relation ⌝ }
-{
-    let kept = contents::kept::kept_columns(envelope, relation);
-    let numbers = kept.numbers;
-    let end = kept.count as usize;
-    let mut total: u64 = 0;
-    let mut i: usize = 0;
-    while i < end {
-        let place = Place {
-            relation: relation,
-            column: numbers[i],
-        };
-        let column = column_of(envelope, place);
-        total += column.width as u64;
-        i += 1;
-    }
-    total
+    pub widths: [u64; 8],
 }
 
 fn rows_in(relations: [Relation; 8], i: usize) -> u64
@@ -115,7 +53,7 @@ fn given_count(envelope: Envelope, k: usize) -> u64
         relation: (k / 8) as u8,
         column: (k % 8) as u8,
     };
-    let column = column_of(envelope, place);
+    let column = crate::columns::column_of(envelope, place);
     column.distinct as u64
 }
 
@@ -144,15 +82,30 @@ fn all_counts(envelope: Envelope) -> [u64; 64]
     out
 }
 
+fn all_widths(envelope: Envelope) -> [u64; 8]
+    ensures { λ r. ⌜ r ≡ given envelope .widths ⌝ }
+{
+    let mut out = [0u64; 8];
+    let mut relation: u8 = 0;
+    while relation < 8 {
+        let slot = relation as usize;
+        out[slot] = crate::columns::width_of(envelope, relation);
+        relation += 1;
+    }
+    out
+}
+
 // The envelope's own estimates.
 pub(crate) fn given(envelope: Envelope) -> Profile
     ensures { λ r. ⌜ r ≡ given envelope ⌝ }
 {
     let rows = all_rows(envelope);
     let counts = all_counts(envelope);
+    let widths = all_widths(envelope);
     Profile {
         rows: rows,
         counts: counts,
+        widths: widths,
     }
 }
 
@@ -166,6 +119,18 @@ pub(crate) fn rows_at(profile: Profile, relation: u8) -> u64
         return 0;
     }
     rows[i]
+}
+
+// The width of a relation; 0 where there is no such relation.
+pub(crate) fn width_at(profile: Profile, relation: u8) -> u64
+    ensures { λ r. ⌜ r ≡ widthAt profile relation ⌝ }
+{
+    let widths = profile.widths;
+    let i = relation as usize;
+    if 8 <= i {
+        return 0;
+    }
+    widths[i]
 }
 
 // The distinct count of a column; 0 where there is no such place in a profile.
@@ -182,7 +147,7 @@ pub(crate) fn count_at(profile: Profile, place: Place) -> u64
 
 // The count in place k of a profile that is shrunk.
 fn count_left(profile: Profile, place: Place, rows: u64, count: u64, k: usize) -> u64
-    requires { ⌜ ((k < 64) × (rows ≤ 1000000)) × ((i : ℕ) → getD (profile .counts) i 0 ≤ 1000000) ⌝ }
+    requires { ⌜ ((k < 64) × (rows ≤ 1000000)) × Low (profile .counts) ⌝ }
     ensures { λ r. ⌜ r ≡ getD (shrunk profile place rows count .counts) k 0 ⌝ }
 {
     let counts = profile.counts;
@@ -198,7 +163,7 @@ fn count_left(profile: Profile, place: Place, rows: u64, count: u64, k: usize) -
 
 // A relation with other rows, one of its columns with another count; each other column of it by Y.
 fn shrunk(profile: Profile, place: Place, rows: u64, count: u64) -> Profile
-    requires { ⌜ (rows ≤ 1000000) × ((i : ℕ) → getD (profile .counts) i 0 ≤ 1000000) ⌝ }
+    requires { ⌜ (rows ≤ 1000000) × Low (profile .counts) ⌝ }
     ensures { λ r. ⌜ r ≡ shrunk profile place rows count ⌝ }
 {
     let mut out = [0u64; 64];
@@ -208,9 +173,11 @@ fn shrunk(profile: Profile, place: Place, rows: u64, count: u64) -> Profile
         k += 1;
     }
     let all = profile.rows;
+    let widths = profile.widths;
     Profile {
         rows: with_rows(all, place.relation, rows),
         counts: out,
+        widths: widths,
     }
 }
 
@@ -225,36 +192,42 @@ fn with_rows(all: [u64; 8], relation: u8, rows: u64) -> [u64; 8]
     out
 }
 
-// The rows of its left relation that a step leaves.
-pub(crate) fn rows_after(envelope: Envelope, profile: Profile, step: Step) -> u64
-    requires { ⌜ ((i : ℕ) → getD (profile .rows) i 0 ≤ 1000000) × ((i : ℕ) → getD (profile .counts) i 0 ≤ 1000000) ⌝ }
-    ensures { λ r. ⌜ r ≡ rowsAfter envelope profile step ⌝ }
+// What a step leaves of a number of its left relation.
+fn remaining(envelope: Envelope, profile: Profile, step: Step, n: u64) -> u64
+    requires { ⌜ (n ≤ 1000000) × Low (profile .counts) ⌝ }
+    ensures { λ r. ⌜ r ≡ remaining envelope profile step n ⌝ }
 {
     let left = step.left;
     let right = step.right;
-    let rows = rows_at(profile, left.relation);
     let count = count_at(profile, right);
-    let size = domain_size(envelope, left);
-    crate::division::over(rows * count, size as u64)
+    let size = crate::columns::domain_size(envelope, left);
+    crate::division::over(n * count, size as u64)
+}
+
+// The rows of its left relation that a step leaves.
+pub(crate) fn rows_after(envelope: Envelope, profile: Profile, step: Step) -> u64
+    requires { ⌜ Low (profile .rows) × Low (profile .counts) ⌝ }
+    ensures { λ r. ⌜ r ≡ rowsAfter envelope profile step ⌝ }
+{
+    let left = step.left;
+    let rows = rows_at(profile, left.relation);
+    remaining(envelope, profile, step, rows)
 }
 
 // The count of its left column that a step leaves.
 fn count_after(envelope: Envelope, profile: Profile, step: Step) -> u64
-    requires { ⌜ ((i : ℕ) → getD (profile .counts) i 0 ≤ 1000000) ⌝ }
+    requires { ⌜ Low (profile .counts) ⌝ }
     ensures { λ r. ⌜ r ≡ countAfter envelope profile step ⌝ }
 {
     let left = step.left;
-    let right = step.right;
-    let before = count_at(profile, left);
-    let count = count_at(profile, right);
-    let size = domain_size(envelope, left);
-    crate::division::over(before * count, size as u64)
+    let count = count_at(profile, left);
+    remaining(envelope, profile, step, count)
 }
 
 impl Profile {
     // What a selection on a column leaves.
     pub(crate) fn after_selection(self, place: Place) -> Profile
-        requires { ⌜ ((i : ℕ) → getD (self .rows) i 0 ≤ 1000000) × ((i : ℕ) → getD (self .counts) i 0 ≤ 1000000) ⌝ }
+        requires { ⌜ Low (self .rows) × Low (self .counts) ⌝ }
         ensures { λ r. ⌜ r ≡ afterSelection self place ⌝ }
     {
         let rows = rows_at(self, place.relation);
@@ -268,7 +241,7 @@ impl Profile {
 
     // What a step leaves. Its rows do not grow.
     pub fn after_step(self, envelope: Envelope, step: Step) -> Profile
-        requires { ⌜ ((i : ℕ) → getD (self .rows) i 0 ≤ 1000000) × ((i : ℕ) → getD (self .counts) i 0 ≤ 1000000) × (rowsAfter envelope self step ≤ 1000000) ⌝ }
+        requires { ⌜ Low (self .rows) × Low (self .counts) × (rowsAfter envelope self step ≤ 1000000) ⌝ }
         ensures { λ r. ⌜ r ≡ afterStep envelope self step ⌝ }
     {
         let left = step.left;

@@ -14,11 +14,12 @@ use Rattle.paths.specs.Steps.{places, isPlace, legalBy, legalSteps}
 use Rattle.paths.specs.Implied.{constantsOf, selectionsBy}
 use Rattle.estimates.specs.Division.{over}
 use Rattle.estimates.specs.Short.{Y}
-use Rattle.estimates.specs.Profile.{columnOf, domainSize, widthOf, given, shrunk, afterSelection, rowsAfter, countAfter, afterStep, benefit, localProfile}
+use Rattle.estimates.specs.Columns.{columnOf, domainSize, widthOf}
+use Rattle.estimates.specs.Profile.{given, shrunk, afterSelection, rowsAfter, countAfter, afterStep, benefit, localProfile}
 use Rattle.estimates.specs.Costs.{plainCosts, priced, stepCost, assemblyAt}
 use Rattle.estimates.specs.Kind.{total}
 use Rattle.estimates.specs.Estimate.{sameStep, linesOf, estimated}
-use Rattle.planner.specs.Plan.{siteFor, greedySteps, dropsAt, reduced, planned, planFor, noPlan, planOf}
+use Rattle.planner.specs.Plan.{siteFor, greedySteps, dropsAt, afterDrops, planned, planFor, noPlan, planOf}
 use Rattle.ground.specs.Outcome.Outcome.{good, bad}
 use Rattle.planner.proofs.Figures.{E1, fallen}
 use Rattle.ground.specs.Outcome.{numbered}
@@ -35,11 +36,11 @@ use Rattle.listing.specs.Listing.{stepText, stepLine, lastLine, refusedL
 
 pub figure-listed : listing (planFor plainCosts E1)
     ≡ text "left column right column benefit cost\n1 1 2 0 298500 50\n1 0 0 0 1470 100\n0 0 1 0 1300 10\n2 0 1 1 150 10\nsite 2 assembly 0 total 170 local 1450\n"
-unfolding padded numbersFrom firstFrom insert rising verdictOf samePlace domainOf sizesOf relationsOf clausesOf targetsOf columnsIn withVersion withSizes withRelations withClauses withTargets siteOf isAt holds names kept keptColumns edges onPath places isPlace legalBy legalSteps constantsOf selectionsBy over Y columnOf domainSize widthOf given shrunk afterSelection rowsAfter countAfter afterStep benefit localProfile plainCosts priced stepCost assemblyAt sameStep siteFor greedySteps dropsAt reduced planned linesOf estimated planFor decimalIn decimal stepText stepLine lastLine planLines listing
+unfolding padded numbersFrom firstFrom insert rising verdictOf samePlace domainOf sizesOf relationsOf clausesOf targetsOf columnsIn withVersion withSizes withRelations withClauses withTargets siteOf isAt holds names kept keptColumns edges onPath places isPlace legalBy legalSteps constantsOf selectionsBy over Y columnOf domainSize widthOf given shrunk afterSelection rowsAfter countAfter afterStep benefit localProfile plainCosts priced stepCost assemblyAt sameStep siteFor greedySteps dropsAt afterDrops planned linesOf estimated planFor decimalIn decimal stepText stepLine lastLine planLines listing
 figure-listed = refl
 
 pub fallback-listed : listing (planFor plainCosts fallen) ≡ text "left column right column benefit cost\nsite 2 assembly 100 total 100 local 100\n"
-unfolding padded numbersFrom firstFrom insert rising verdictOf samePlace domainOf sizesOf relationsOf clausesOf targetsOf columnsIn withVersion withSizes withRelations withClauses withTargets siteOf isAt holds names kept keptColumns edges onPath places isPlace legalBy legalSteps constantsOf selectionsBy over Y columnOf domainSize widthOf given shrunk afterSelection rowsAfter countAfter afterStep benefit localProfile plainCosts priced stepCost assemblyAt sameStep siteFor greedySteps dropsAt reduced planned linesOf estimated planFor decimalIn decimal stepText stepLine lastLine planLines listing
+unfolding padded numbersFrom firstFrom insert rising verdictOf samePlace domainOf sizesOf relationsOf clausesOf targetsOf columnsIn withVersion withSizes withRelations withClauses withTargets siteOf isAt holds names kept keptColumns edges onPath places isPlace legalBy legalSteps constantsOf selectionsBy over Y columnOf domainSize widthOf given shrunk afterSelection rowsAfter countAfter afterStep benefit localProfile plainCosts priced stepCost assemblyAt sameStep siteFor greedySteps dropsAt afterDrops planned linesOf estimated planFor decimalIn decimal stepText stepLine lastLine planLines listing
 fallback-listed = refl
 
 pub refusal-listed : listing (planOf (bad 1 0)) ≡ text "refused 1 0\n"

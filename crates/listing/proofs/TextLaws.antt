@@ -38,9 +38,6 @@ small-byte v h = let e : v % 256 ≡ v = omega arith in rw e
 pub letter-put : (o t : List ℕ) (at v : ℕ) → v < 256 → t ≡ sets o at (bytesOf 1 v) → t ≡ set o at v
 letter-put o t at v h e = e ∙ ap (sets o at) (small-byte v h)
 
-pub digit-put : (o t : List ℕ) (at d : ℕ) → t ≡ set o at (48 + d) → Puts o at 1 ((48 + d) ∷ []) (at + 1) t
-digit-put o t at d e = (refl, e, omega arith)
-
 module _ (n : ℕ) where
   decimal-one : (k : ℕ) → n < 10 → decimalIn (suc k) n ≡ (48 + n) ∷ []
   unfolding decimalIn

@@ -5,5 +5,7 @@ fn main() {
     let n = io::read_full(0, &mut paper);
     let mut out = [0u8; 20480];
     let length = listing::listing::list_paper(&mut out, &paper[..n]);
-    io::write_all(1, &out[..length]);
+    if !io::write_all(1, &out[..length]) {
+        io::write_all(2, b"plan: the listing could not be written whole\n");
+    }
 }

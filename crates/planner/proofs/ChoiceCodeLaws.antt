@@ -7,12 +7,11 @@ use Prim.Native.Nat.{ℕ, zero, suc, _+_, _-_, _≤_, _<_}
 use native.Mathlib.Nat.{le-refl, le-trans}
 use native.Mathlib.Omega.{arith}
 use lib.ListN.{length, getD, set, take, replicate, length-append}
-use lib.Seq.{length-take-le, append-snoc}
+use lib.Seq.{append-snoc}
 use Rattle.ground.specs.Lists.{Every, filter}
 use Rattle.ground.specs.Choice.{firstOfGreatest}
 use Rattle.ground.proofs.OutcomeLaws.{never}
 use Rattle.ground.proofs.EveryLaws.{every-at, every-of, every-getD, every-filter}
-use Rattle.ground.proofs.UsedLaws.{used-inside}
 use Rattle.ground.proofs.ChoiceLaws.{greatest-first}
 use Rattle.ground.proofs.CollectingLaws.{Collecting, collecting-start, collecting-push, padded-take, padded-inside}
 use Rattle.contents.specs.declared.envelope.Envelope.{Envelope}
@@ -28,7 +27,7 @@ use Rattle.planner.specs.Choice.{gain, without, greedy}
 use Rattle.estimates.specs.Estimate.{sameStep, kindOf, line}
 use Rattle.planner.specs.Plan.{greedySteps}
 use Rattle.planner.specs.Candidates.{shownSteps, shownChoice}
-use Rattle.estimates.specs.Ready.{Ready, Bounded, Shrinks}
+use Rattle.estimates.specs.Ready.{Low, Ready, Bounded, Shrinks}
 use Rattle.estimates.specs.declared.profiles.Profile.{Profile}
 use Rattle.estimates.specs.declared.costs.Costs.{Costs}
 use Rattle.estimates.specs.declared.lines.Line.{Line}
@@ -41,8 +40,7 @@ use Rattle.planner.proofs.ChoiceLaws.{same-self}
 use Rattle.estimates.proofs.ProfileLaws.{Inside, local-inside, rows-after, step-inside}
 use Rattle.estimates.proofs.EstimateLaws.{step-tells}
 use Rattle.estimates.proofs.BoundCodeLaws.{inside-bounded}
-use Rattle.estimates.proofs.LocalCodeLaws.{Low}
-use Rattle.planner.proofs.ChoosingLaws.{Choosing, choosing-start, choosing-more, choosing-less, choosing-none, choosing-some}
+use Rattle.planner.proofs.ChoosingLaws.{Seeking, choosing-start, seeking-none, seeking-some}
 
 -- ---- what a line says of the gain
 
@@ -55,41 +53,16 @@ module _ (k : Costs) (e : Envelope) (p : Profile) (s : Step) (l : Line) (f : l �
 
 -- ---- the first of greatest gain among the first n steps of an array
 
-abbrev pub Seeking : Costs → Envelope → Profile → List Step → ℕ → ℕ → Step → ℕ → Type 0
-Seeking k e p steps n i best most = Choosing (gain (kindOf k e) p) (take n steps) i best most
-
 module _ (k : Costs) (e : Envelope) (p : Profile) (steps : List Step) (n : ℕ) where
-  pub seeking-start : (z : Step) → Seeking k e p steps n 0 z 0
-  seeking-start z = choosing-start (gain (kindOf k e) p) (take n steps) z
+  pub choice-start : (z : Step) → Seeking (gain (kindOf k e) p) steps n 0 z 0
+  choice-start z = choosing-start (gain (kindOf k e) p) (take n steps) z
 
-  module _ (few : n ≤ 156) (long : length steps ≡ 156) (i : ℕ) (best : Step) (most : ℕ) (c : Seeking k e p steps n i best most) where
-    used-length : length (take n steps) ≡ n
-    used-length = length-take-le n steps (omega arith)
+  module _ (few : n ≤ 156) (long : length steps ≡ 156) (i : ℕ) (best : Step) (most : ℕ) (c : Seeking (gain (kindOf k e) p) steps n i best most) where
+    pub choice-nothing : n ≤ i → most ≡ 0 → Nothing ≡ shownChoice (firstOfGreatest (gain (kindOf k e) p) (take n steps))
+    choice-nothing h z = rw (seeking-none (gain (kindOf k e) p) steps n 156 few long noStep i best most c h z)
 
-    module _ (h : i < n) (v : ℕ) (f : v ≡ gain (kindOf k e) p (getD steps i noStep)) where
-      here : i < length (take n steps)
-      here = omega (arith, used-length)
-
-      at : getD (take n steps) i noStep ≡ getD steps i noStep
-      at = used-inside steps n i noStep h
-
-      gains : gain (kindOf k e) p (getD (take n steps) i noStep) ≡ v
-      gains = ap (gain (kindOf k e) p) at ∙ sym f
-
-      pub seeking-more : most < v → (best′ : Step) (most′ : ℕ) → best′ ≡ getD steps i noStep → most′ ≡ v → Seeking k e p steps n (i + 1) best′ most′
-      seeking-more l best′ most′ s t =
-          rw (s, t)
-          (rw (gains, at) at (choosing-more (gain (kindOf k e) p) (take n steps) i best most c noStep here (omega (arith, gains))))
-
-      pub seeking-less : v ≤ most → (best′ : Step) (most′ : ℕ) → best′ ≡ best → most′ ≡ most → Seeking k e p steps n (i + 1) best′ most′
-      seeking-less l best′ most′ s t =
-          rw (s, t) (choosing-less (gain (kindOf k e) p) (take n steps) i best most c noStep here (omega (arith, gains)))
-
-    pub seeking-none : n ≤ i → most ≡ 0 → Nothing ≡ shownChoice (firstOfGreatest (gain (kindOf k e) p) (take n steps))
-    seeking-none h z = rw (choosing-none (gain (kindOf k e) p) (take n steps) i best most c (omega (arith, used-length)) z)
-
-    pub seeking-some : n ≤ i → (most ≡ 0 → ⊥) → Chosen best ≡ shownChoice (firstOfGreatest (gain (kindOf k e) p) (take n steps))
-    seeking-some h z = rw (choosing-some (gain (kindOf k e) p) (take n steps) i best most c (omega (arith, used-length)) z)
+    pub choice-chosen : n ≤ i → (most ≡ 0 → ⊥) → Chosen best ≡ shownChoice (firstOfGreatest (gain (kindOf k e) p) (take n steps))
+    choice-chosen h z = rw (seeking-some (gain (kindOf k e) p) steps n 156 few long noStep i best most c h z)
 
 -- ---- the greedy program, over any kind of estimate: one turn
 
@@ -157,7 +130,7 @@ module _ (k : Costs) (e : Envelope) (local : Profile) (ready : Ready k e local) 
     pub planning-few : unused .count ≤ 156
     planning-few = rw (g .held) (omega (arith, g .room))
 
-    pub planning-bounded : Bounded k e p
+    pub planning-bounded : Bounded k p
     planning-bounded = inside-bounded k e local ready p (g .inside)
 
     pub planning-shrinks : (i : ℕ) → i < unused .count → Shrinks e p (getD (unused .all) i noStep)

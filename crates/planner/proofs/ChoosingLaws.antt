@@ -1,6 +1,6 @@
 -- A loop that finds the first of greatest gain: it keeps what it has, with its gain, unless the next gains more. A gain of 0
 -- says that it has none.
-use mathlib.Core.Path.{_≡_, refl, ap, _∙_}
+use mathlib.Core.Path.{_≡_, refl, sym, ap, _∙_}
 use mathlib.Core.List.{List}
 use mathlib.Core.Logic.{_⊎_, inl, inr}
 use mathlib.Core.Option.{Option, none, some}
@@ -9,8 +9,9 @@ use native.Mathlib.Numerals.{add-one}
 use native.Mathlib.Omega.{arith}
 use borrow.Author.Tests.{lt-ltb, le-ltb}
 use lib.ListN.{length, getD, take}
-use lib.Seq.{take-suc, take-all}
+use lib.Seq.{take-suc, take-all, length-take-le}
 use Rattle.ground.specs.Choice.{firstOfGreatest}
+use Rattle.ground.proofs.UsedLaws.{used-inside}
 use Rattle.ground.proofs.ChoiceLaws.{orLater, greatest-later}
 
 module _ {A : Type 0} (gain : A → ℕ) where
@@ -60,3 +61,34 @@ module _ {A : Type 0} (gain : A → ℕ) (l : List A) where
 
     pub choosing-some : length l ≤ i → (most ≡ 0 → ⊥) → firstOfGreatest gain l ≡ some best
     choosing-some h z = rw (take-all i l h) at (held-some gain (firstOfGreatest gain (take i l)) best most (c .held) z)
+
+-- ---- among the first n of an array
+
+abbrev pub Seeking : {A : Type 0} → (A → ℕ) → List A → ℕ → ℕ → A → ℕ → Type 0
+Seeking gain xs n i best most = Choosing gain (take n xs) i best most
+
+module _ {A : Type 0} (gain : A → ℕ) (xs : List A) (n size : ℕ) (few : n ≤ size) (long : length xs ≡ size) (z : A)
+    (i : ℕ) (best : A) (most : ℕ) (c : Seeking gain xs n i best most) where
+  used : length (take n xs) ≡ n
+  used = length-take-le n xs (omega arith)
+
+  module _ (h : i < n) (v : ℕ) (f : v ≡ gain (getD xs i z)) where
+    at : getD (take n xs) i z ≡ getD xs i z
+    at = used-inside xs n i z h
+
+    gains : gain (getD (take n xs) i z) ≡ v
+    gains = ap gain at ∙ sym f
+
+    pub seeking-more : most < v → (best′ : A) (most′ : ℕ) → best′ ≡ getD xs i z → most′ ≡ v → Seeking gain xs n (i + 1) best′ most′
+    seeking-more l best′ most′ s t =
+        rw (s, t) (rw (gains, at) at (choosing-more gain (take n xs) i best most c z (omega (arith, used)) (omega (arith, gains))))
+
+    pub seeking-less : v ≤ most → (best′ : A) (most′ : ℕ) → best′ ≡ best → most′ ≡ most → Seeking gain xs n (i + 1) best′ most′
+    seeking-less l best′ most′ s t =
+        rw (s, t) (choosing-less gain (take n xs) i best most c z (omega (arith, used)) (omega (arith, gains)))
+
+  pub seeking-none : n ≤ i → most ≡ 0 → firstOfGreatest gain (take n xs) ≡ none
+  seeking-none h e = choosing-none gain (take n xs) i best most c (omega (arith, used)) e
+
+  pub seeking-some : n ≤ i → (most ≡ 0 → ⊥) → firstOfGreatest gain (take n xs) ≡ some best
+  seeking-some h e = choosing-some gain (take n xs) i best most c (omega (arith, used)) e

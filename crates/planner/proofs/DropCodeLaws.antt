@@ -29,13 +29,13 @@ use Rattle.estimates.specs.declared.costs.Costs.{Costs}
 use Rattle.planner.specs.Numbers.{shownNumbers}
 use Rattle.planner.specs.declared.numbers.Numbers.{Numbers}
 use Rattle.planner.proofs.SublistLaws.{fewer}
-use Rattle.planner.proofs.DropLaws.{steps-all}
-use Rattle.estimates.proofs.EstimateLaws.{lines-costs}
-use Rattle.planner.proofs.OrderCodeLaws.{others, lines-order, dearest-few}
+use Rattle.planner.proofs.DropLaws.{others, steps-all}
+use Rattle.estimates.proofs.EstimateLaws.{lines-costs, estimated-whole}
+use Rattle.planner.proofs.OrderCodeLaws.{lines-order, dearest-few}
 use Rattle.estimates.specs.declared.lines.Estimate.{Estimate}
 use Rattle.ground.proofs.ListLaws.{filter-alike}
 use Rattle.contents.specs.Sites.{isAt}
-use Rattle.planner.specs.Choice.{dearest}
+use Rattle.planner.specs.Choice.{dearestFirst}
 use Rattle.estimates.specs.Kind.{costs}
 use Rattle.estimates.specs.Estimate.{line, linesOf, costsIn, estimated}
 use Rattle.planner.specs.Plan.{dropsAt}
@@ -151,9 +151,11 @@ module _ (k : Costs) (e : Envelope) (f : Program) (a : Acceptable e f) (order : 
             (with-acceptable e (f .site) (stepsAt noStep (stepsOf f) less) (a .site)
             (rw (length-map less (λ (j : ℕ). getD (stepsOf f) j noStep)) less-few) (numbers-legal e f a less less-inside))
 
-        module _ (anew : ℕ) (x : anew ≡ total (kindOf k e) (localProfile e) (shorter .site) (stepsOf shorter)) where
-          anew-is : anew ≡ totalOf less
-          anew-is = x ∙ rw (shorter-is, with-steps e (f .site) (stepsAt noStep (stepsOf f) less))
+        module _ (anew : Estimate) (x : anew ≡ estimated k e (stepsOf shorter) (shorter .site)) where
+          anew-is : anew .total ≡ totalOf less
+          anew-is =
+              estimated-whole k e (stepsOf shorter) (shorter .site) anew x
+              ∙ rw (shorter-is, with-steps e (f .site) (stepsAt noStep (stepsOf f) less))
 
           module _ (h : i < n) (kept′ : Numbers) (now′ : ℕ) where
             next : drop i (take n order) ≡ getD order i 0 ∷ drop (i + 1) (take n order)
@@ -161,7 +163,7 @@ module _ (k : Costs) (e : Envelope) (f : Program) (a : Acceptable e f) (order : 
                 drop-cons (take n order) i 0 (omega (arith, length-take-le n order (omega (arith, g .room, g .long))))
                 ∙ rw (used-inside order n i 0 h, add-one i)
 
-            pub dropping-yes : anew < now → kept′ ≡ fewer → now′ ≡ anew → Dropping k e f order n (i + 1) kept′ now′
+            pub dropping-yes : anew .total < now → kept′ ≡ fewer → now′ ≡ anew .total → Dropping k e f order n (i + 1) kept′ now′
             dropping-yes l y z =
                 record {
                   within = omega arith;
@@ -178,7 +180,7 @@ module _ (k : Costs) (e : Envelope) (f : Program) (a : Acceptable e f) (order : 
                   cost = z ∙ anew-is;
                 }
 
-            pub dropping-no : now ≤ anew → kept′ ≡ kept → now′ ≡ now → Dropping k e f order n (i + 1) kept′ now′
+            pub dropping-no : now ≤ anew .total → kept′ ≡ kept → now′ ≡ now → Dropping k e f order n (i + 1) kept′ now′
             dropping-no l y z =
                 record {
                   within = omega arith;
@@ -212,8 +214,7 @@ module _ (k : Costs) (e : Envelope) (f : Program) (a : Acceptable e f) where
 
   module _ (x : Estimate) (u : x ≡ estimated k e (stepsOf f) (f .site)) where
     pub total-before : x .total ≡ total (kindOf k e) (localProfile e) (f .site) (stepsOf f)
-    unfolding estimated
-    total-before = rw u
+    total-before = estimated-whole k e (stepsOf f) (f .site) x u
 
     lines-before : x .lines ≡ padded 156 (line noStep 0 0) (linesOf k e (localProfile e) (stepsOf f))
     unfolding estimated
@@ -236,18 +237,18 @@ module _ (k : Costs) (e : Envelope) (f : Program) (a : Acceptable e f) where
       there-few = omega (arith, shown-count stands there there-is, stands-few)
 
       module _ (order : Numbers)
-          (w : order ≡ shownNumbers (dearest (costsIn (x .lines)) (length (take (there .count) (there .all))) (take (there .count) (there .all)))) where
-        order-is : order ≡ shownNumbers (dearest (costs (kindOf k e) (localProfile e) (stepsOf f)) (length stands) stands)
+          (w : order ≡ shownNumbers (dearestFirst (costsIn (x .lines)) (length (take (there .count) (there .all))) (take (there .count) (there .all)))) where
+        order-is : order ≡ shownNumbers (dearestFirst (costs (kindOf k e) (localProfile e) (stepsOf f)) (length stands) stands)
         order-is =
-            w ∙ ap (λ (l : List ℕ). shownNumbers (dearest (costsIn (x .lines)) (length l) l)) (shown-used stands there there-is)
+            w ∙ ap (λ (l : List ℕ). shownNumbers (dearestFirst (costsIn (x .lines)) (length l) l)) (shown-used stands there there-is)
             ∙ ap shownNumbers (lines-order (linesOf k e (localProfile e) (stepsOf f)) (x .lines) lines-before (length stands) stands)
-            ∙ ap (λ (l : List ℕ). shownNumbers (dearest l (length stands) stands)) (lines-costs k e (localProfile e) (stepsOf f))
+            ∙ ap (λ (l : List ℕ). shownNumbers (dearestFirst l (length stands) stands)) (lines-costs k e (localProfile e) (stepsOf f))
 
         pub order-few : order .count ≤ 156
         order-few =
             omega (
               arith,
-              shown-count (dearest (costs (kindOf k e) (localProfile e) (stepsOf f)) (length stands) stands) order order-is,
+              shown-count (dearestFirst (costs (kindOf k e) (localProfile e) (stepsOf f)) (length stands) stands) order order-is,
               dearest-few (costs (kindOf k e) (localProfile e) (stepsOf f)) (length stands) stands,
               stands-few,
             )
@@ -259,6 +260,6 @@ module _ (k : Costs) (e : Envelope) (f : Program) (a : Acceptable e f) where
         unfolding dropsAt
         drops-done r h =
             h ∙ ap (λ (l : List ℕ). programWith (f .site) (stepsAt noStep (stepsOf f) (dropped (kindOf k e) (localProfile e) (f .site) (stepsAt noStep (stepsOf f)) l (below (f .count)))))
-            (shown-used (dearest (costs (kindOf k e) (localProfile e) (stepsOf f)) (length stands) stands) order order-is)
-            ∙ ap (λ (n : ℕ). programWith (f .site) (stepsAt noStep (stepsOf f) (dropped (kindOf k e) (localProfile e) (f .site) (stepsAt noStep (stepsOf f)) (dearest (costs (kindOf k e) (localProfile e) (stepsOf f)) (length stands) stands) (below n))))
+            (shown-used (dearestFirst (costs (kindOf k e) (localProfile e) (stepsOf f)) (length stands) stands) order order-is)
+            ∙ ap (λ (n : ℕ). programWith (f .site) (stepsAt noStep (stepsOf f) (dropped (kindOf k e) (localProfile e) (f .site) (stepsAt noStep (stepsOf f)) (dearestFirst (costs (kindOf k e) (localProfile e) (stepsOf f)) (length stands) stands) (below n))))
             (sym (a .whole))

@@ -23,11 +23,12 @@ use Rattle.ground.proofs.NumbersLaws.{below-length, below-getD, below-mem}
 use Rattle.ground.proofs.OrderLaws.{ordered-filter}
 use Rattle.ground.proofs.ChoiceLaws.{First, Chosen, greatest-chosen}
 use Rattle.estimates.specs.Kind.{Kind, costs, total}
-use Rattle.planner.specs.Choice.{dearest, stepsAt, dropped, drops}
+use Rattle.planner.specs.Promise.{Dearer}
+use Rattle.planner.specs.Choice.{dearestFirst, stepsAt, dropped, drops}
 use Rattle.planner.proofs.SublistLaws.{fewer, filter-part, part-map, first-mem, first-before}
 
 -- one number left out
-abbrev others : ℕ → List ℕ → List ℕ
+abbrev pub others : ℕ → List ℕ → List ℕ
 others i l = filter (λ j. not (eqb i j)) l
 
 others-self : (i : ℕ) → not (eqb i i) ≡ false
@@ -42,46 +43,42 @@ others-mem i j l m = go (eqb i j) refl
 
 -- ---- the order in which numbers are looked at
 
--- i costs more than j, or the same and is earlier
-abbrev pub Dearer : List ℕ → ℕ → ℕ → Type 0
-Dearer cs i j = (getD cs j 0 < getD cs i 0) ⊎ ((getD cs i 0 ≡ getD cs j 0) × (i < j))
-
 module _ (cs : List ℕ) where
   abbrev rank : ℕ → ℕ
   rank i = suc (getD cs i 0)
 
-  dearest-from : (n : ℕ) (left : List ℕ) {i : ℕ} → List·Memᴰ i (dearest cs n left) → List·Memᴰ i left
+  dearest-from : (n : ℕ) (left : List ℕ) {i : ℕ} → List·Memᴰ i (dearestFirst cs n left) → List·Memᴰ i left
   dearest-from zero left m = elim m [ ]
   dearest-from (suc n) left {i} m = go (firstOfGreatest rank left) (greatest-chosen rank left) (λ l. dearest-from n l) m
     where
-      go : (o : Option ℕ) → Chosen rank left o → ((l : List ℕ) → List·Memᴰ i (dearest cs n l) → List·Memᴰ i l)
-          → List·Memᴰ i (elim o [ none ↦ [] | some j ↦ j ∷ dearest cs n (others j left) ]) → List·Memᴰ i left
+      go : (o : Option ℕ) → Chosen rank left o → ((l : List ℕ) → List·Memᴰ i (dearestFirst cs n l) → List·Memᴰ i l)
+          → List·Memᴰ i (elim o [ none ↦ [] | some j ↦ j ∷ dearestFirst cs n (others j left) ]) → List·Memᴰ i left
       go none c ih m = elim m [ ]
       go (some j) c ih m = there (List·Memᴰ·cases-cons m)
         where
-          there : (i ≡ j) ⊎ List·Memᴰ i (dearest cs n (others j left)) → List·Memᴰ i left
+          there : (i ≡ j) ⊎ List·Memᴰ i (dearestFirst cs n (others j left)) → List·Memᴰ i left
           there (inl e) = rw e (first-mem rank c)
           there (inr h) = filter-from _ left (ih (others j left) h) .0
 
-  dearest-mem : (n : ℕ) (left : List ℕ) → length left ≤ n → {i : ℕ} → List·Memᴰ i left → List·Memᴰ i (dearest cs n left)
+  dearest-mem : (n : ℕ) (left : List ℕ) → length left ≤ n → {i : ℕ} → List·Memᴰ i left → List·Memᴰ i (dearestFirst cs n left)
   dearest-mem zero [] h m = elim m [ ]
   dearest-mem zero (x ∷ left) h m = absurd (omega arith)
   dearest-mem (suc n) left h {i} m = go (firstOfGreatest rank left) (greatest-chosen rank left) (λ l q. dearest-mem n l q)
     where
       go : (o : Option ℕ) → Chosen rank left o
-          → ((l : List ℕ) → length l ≤ n → List·Memᴰ i l → List·Memᴰ i (dearest cs n l))
-          → List·Memᴰ i (elim o [ none ↦ [] | some j ↦ j ∷ dearest cs n (others j left) ])
+          → ((l : List ℕ) → length l ≤ n → List·Memᴰ i l → List·Memᴰ i (dearestFirst cs n l))
+          → List·Memᴰ i (elim o [ none ↦ [] | some j ↦ j ∷ dearestFirst cs n (others j left) ])
       go none c ih = let z : rank i ≡ 0 = every-at (λ (j : ℕ). rank j ≡ 0) left c m in absurd (omega arith)
       go (some j) c ih = there (others-mem j i left m)
         where
-          there : (i ≡ j) ⊎ List·Memᴰ i (others j left) → List·Memᴰ i (j ∷ dearest cs n (others j left))
+          there : (i ≡ j) ⊎ List·Memᴰ i (others j left) → List·Memᴰ i (j ∷ dearestFirst cs n (others j left))
           there (inl e) = List·Memᴰ·head e
           there (inr q) =
               List·Memᴰ·tail
               (ih (others j left) (omega (arith, fewer (λ h. not (eqb j h)) left (first-mem rank c) (others-self j))) q)
 
   -- each number that is given, and no other
-  pub dearest-member : (n : ℕ) (left : List ℕ) → length left ≤ n → (i : ℕ) → List·Memᴰ i left ↔ List·Memᴰ i (dearest cs n left)
+  pub dearest-member : (n : ℕ) (left : List ℕ) → length left ≤ n → (i : ℕ) → List·Memᴰ i left ↔ List·Memᴰ i (dearestFirst cs n left)
   dearest-member n left h i = (dearest-mem n left h, dearest-from n left)
 
   -- the first of greatest cost is dearer than any other
@@ -94,15 +91,15 @@ module _ (cs : List ℕ) where
       go (inr (inr (h, l))) = inr (omega arith, l)
 
   -- in order, so each once
-  pub dearest-ordered : (n : ℕ) (left : List ℕ) → Ordered _<_ left → Ordered (Dearer cs) (dearest cs n left)
+  pub dearest-ordered : (n : ℕ) (left : List ℕ) → Ordered _<_ left → Ordered (Dearer cs) (dearestFirst cs n left)
   dearest-ordered zero left o = tt
   dearest-ordered (suc n) left o = go (firstOfGreatest rank left) (greatest-chosen rank left) (dearest-ordered n)
     where
-      go : (q : Option ℕ) → Chosen rank left q → ((l : List ℕ) → Ordered _<_ l → Ordered (Dearer cs) (dearest cs n l))
-          → Ordered (Dearer cs) (elim q [ none ↦ [] | some i ↦ i ∷ dearest cs n (others i left) ])
+      go : (q : Option ℕ) → Chosen rank left q → ((l : List ℕ) → Ordered _<_ l → Ordered (Dearer cs) (dearestFirst cs n l))
+          → Ordered (Dearer cs) (elim q [ none ↦ [] | some i ↦ i ∷ dearestFirst cs n (others i left) ])
       go none c ih = tt
       go (some i) c ih = (
-        every-of (Dearer cs i) (dearest cs n (others i left))
+        every-of (Dearer cs i) (dearestFirst cs n (others i left))
             (λ j m. let (h, e) = filter-from (λ x. not (eqb i x)) left (dearest-from n (others i left) m) in
             first-dearer left i j c o h (not-true _ e)),
         ih (others i left) (ordered-filter _<_ (λ x. not (eqb i x)) left o),
@@ -194,7 +191,7 @@ module _ {P S : Type 0} (k : Kind P S) where
     there = filter (λ i. mine (getD ss i z)) (below (length ss))
 
     abbrev order : List ℕ
-    order = dearest (costs k p ss) (length there) there
+    order = dearestFirst (costs k p ss) (length there) there
 
     -- a part of the program, in its order
     pub drops-part : Sublistᴰ (drops k z p site mine ss) ss

@@ -27,11 +27,12 @@ use Rattle.paths.specs.Implied.{constantsOf, selectionsBy}
 use Rattle.paths.specs.declared.steps.Step.{Step}
 use Rattle.estimates.specs.Division.{over}
 use Rattle.estimates.specs.Short.{Y}
-use Rattle.estimates.specs.Profile.{columnOf, domainSize, widthOf, given, shrunk, afterSelection, rowsAfter, countAfter, afterStep, benefit, localProfile}
+use Rattle.estimates.specs.Columns.{columnOf, domainSize, widthOf}
+use Rattle.estimates.specs.Profile.{given, shrunk, afterSelection, rowsAfter, countAfter, afterStep, benefit, localProfile}
 use Rattle.estimates.specs.Costs.{plainCosts, priced, stepCost, assemblyAt}
 use Rattle.estimates.specs.Kind.{total}
 use Rattle.estimates.specs.Estimate.{kindOf, sameStep, linesOf, estimated}
-use Rattle.planner.specs.Plan.{siteFor, greedySteps, dropsAt, reduced, planned, planFor}
+use Rattle.planner.specs.Plan.{siteFor, greedySteps, dropsAt, afterDrops, planned, planFor}
 use Rattle.estimates.specs.declared.lines.Line.{Line}
 use Rattle.planner.specs.declared.plans.Plan.{Plan}
 
@@ -95,11 +96,11 @@ figures =
     ∷ 2 ∷ 0 ∷ 1 ∷ 1 ∷ 150 ∷ 10
     ∷ 2 ∷ 0 ∷ 170 ∷ 1450 ∷ [])
     -- the fallback: the greedy program costs 200 in all, local-only 100; no steps, site 2
-    ∷ figure (each numbers (reduced plainCosts fallen .steps)) (1 ∷ 0 ∷ 0 ∷ 0 ∷ [])
-    ∷ figure (total (kindOf plainCosts fallen) (localProfile fallen) (reduced plainCosts fallen .site) (reduced plainCosts fallen .steps) ∷ []) (200 ∷ [])
+    ∷ figure (each numbers (greedySteps plainCosts fallen)) (1 ∷ 0 ∷ 0 ∷ 0 ∷ [])
+    ∷ figure (total (kindOf plainCosts fallen) (localProfile fallen) (afterDrops plainCosts fallen .site) (greedySteps plainCosts fallen) ∷ []) (200 ∷ [])
     ∷ figure (shown (planFor plainCosts fallen)) (2 ∷ 100 ∷ 100 ∷ 100 ∷ [])
     ∷ []
 
 pub figures-hold : map (λ (f : Figure). f .got) figures ≡ map (λ (f : Figure). f .want) figures
-unfolding padded numbersFrom firstFrom insert rising verdictOf samePlace domainOf sizesOf relationsOf clausesOf targetsOf columnsIn withVersion withSizes withRelations withClauses withTargets siteOf isAt holds names kept keptColumns edges onPath places isPlace legalBy legalSteps constantsOf selectionsBy over Y columnOf domainSize widthOf given shrunk afterSelection rowsAfter countAfter afterStep benefit localProfile plainCosts priced stepCost assemblyAt sameStep siteFor greedySteps dropsAt reduced planned linesOf estimated planFor
+unfolding padded numbersFrom firstFrom insert rising verdictOf samePlace domainOf sizesOf relationsOf clausesOf targetsOf columnsIn withVersion withSizes withRelations withClauses withTargets siteOf isAt holds names kept keptColumns edges onPath places isPlace legalBy legalSteps constantsOf selectionsBy over Y columnOf domainSize widthOf given shrunk afterSelection rowsAfter countAfter afterStep benefit localProfile plainCosts priced stepCost assemblyAt sameStep siteFor greedySteps dropsAt afterDrops planned linesOf estimated planFor
 figures-hold = refl

@@ -8,6 +8,7 @@ pub mod ChoosingLaws
 pub mod ChoiceLaws
 pub mod DropLaws
 pub mod PlanLaws
+pub mod PromiseLaws
 pub mod SiteCodeLaws
 pub mod CandidateCodeLaws
 pub mod ChoiceCodeLaws

@@ -1,8 +1,8 @@
 -- The planner with the estimate of 01: every step handed out is legal and stands once, the site holds a relation, the total
--- is at most that of local operations alone, and it is the sum of what the lines say and of assembly.
+-- is at most that of local operations alone, and it is the sum of what the lines say and of assembly. PromiseLaws gathers it.
 use mathlib.Core.Path.{_≡_, refl}
 use mathlib.Core.Bool.{true}
-use mathlib.Core.List.{List, [], _∷_, _++_, map, List·Memᴰ, List·Memᴰ·head, List·Memᴰ·not-nil, Memᴰ·append-right}
+use mathlib.Core.List.{List, [], map, List·Memᴰ, List·Memᴰ·head, List·Memᴰ·not-nil, Memᴰ·append-right}
 use mathlib.Core.List.{Sublistᴰ, Sublistᴰ·nil-sublist}
 use mathlib.Core.Logic.{_⊎_, inl, inr}
 use mathlib.Core.Option.{Option, none, some}
@@ -16,30 +16,44 @@ use Rattle.ground.specs.Order.{Ordered}
 use Rattle.ground.proofs.TestLaws.{and-both}
 use Rattle.ground.proofs.ListLaws.{any-of, filter-mem, filter-from}
 use Rattle.ground.proofs.EveryLaws.{every-of, every-getD}
-use Rattle.ground.proofs.NumbersLaws.{below-mem, below-from}
+use Rattle.ground.proofs.NumbersLaws.{below-mem}
 use Rattle.entries.specs.Relations.{pastRelation}
 use Rattle.contents.specs.Parts.{sizesOf, relationsOf, relationCount}
 use Rattle.contents.specs.Sites.{siteOf, isAt, holds}
 use Rattle.envelopes.specs.Rules.{RelationWithin, Within}
 use Rattle.contents.specs.declared.envelope.Envelope.{Envelope}
-use Rattle.paths.specs.Steps.{legal, legalSteps, StepBefore}
+use Rattle.paths.specs.Steps.{legal, legalSteps}
 use Rattle.papers.specs.Programs.{noStep}
 use Rattle.paths.specs.declared.steps.Step.{Step}
-use Rattle.paths.proofs.StepLaws.{legal-member, legal-ordered}
+use Rattle.paths.proofs.StepLaws.{legal-member}
 use Rattle.paths.proofs.StepCountLaws.{legal-few}
-use Rattle.estimates.specs.Profile.{benefit, localProfile}
-use Rattle.estimates.specs.Costs.{stepCost, assemblyAt}
-use Rattle.planner.specs.Choice.{Handed, gain, cheapest, fallback}
+use Rattle.estimates.specs.Profile.{localProfile}
+use Rattle.estimates.specs.Costs.{assemblyAt}
+use Rattle.planner.specs.Choice.{Handed, cheapest, fallback}
 use Rattle.estimates.specs.Kind.{afterAll, total}
 use Rattle.estimates.specs.Estimate.{kindOf, linesOf, estimated}
-use Rattle.planner.specs.Plan.{siteFor, greedySteps, dropsAt, reduced, planned, planFor}
+use Rattle.planner.specs.Plan.{siteFor, greedySteps, dropsAt, afterDrops, planned, planFor}
 use Rattle.estimates.specs.declared.profiles.Profile.{Profile}
 use Rattle.estimates.specs.declared.costs.Costs.{Costs}
 use Rattle.estimates.specs.declared.lines.Line.{Line}
 use Rattle.planner.proofs.SublistLaws.{Apart, part-mem, part-length, part-ordered}
-use Rattle.planner.proofs.ChoiceLaws.{Greedy, greedy-run, greedy-from, greedy-once, greedy-few, greedy-choice, greedy-stops, CheapestOf, cheapest-is, fallback-is, fallback-total}
-use Rattle.estimates.proofs.EstimateLaws.{step-tells, estimated-lines, estimated-long, estimated-total}
+use Rattle.planner.proofs.ChoiceLaws.{Greedy, greedy-run, greedy-from, greedy-once, greedy-few, CheapestOf, cheapest-is, fallback-is, fallback-total}
+use Rattle.estimates.proofs.EstimateLaws.{step-tells, estimated-lines, estimated-total}
 use Rattle.planner.proofs.DropLaws.{drops-part}
+
+-- a site that holds a relation
+pub some-site : (e : Envelope) → Within e → List·Memᴰ (siteOf e 0) (filter (holds e) (below 8))
+unfolding siteOf isAt holds
+some-site e w =
+    filter-mem (holds e) (below-mem (siteOf e 0) 8 (omega (arith, low)))
+    (any-of (isAt e (siteOf e 0)) (below-mem 0 (relationCount e) (omega (arith, w .relations)))
+    (and-both (lt-ltb 0 (relationCount e) (omega (arith, w .relations))) (eq-eqb (siteOf e 0) (siteOf e 0) refl)))
+  where
+    some-relation : 0 < length (relationsOf e)
+    some-relation = omega (arith, w .relations, w .whole-relations)
+
+    low : getD (relationsOf e) 0 pastRelation .site ≤ 7
+    low = every-getD (RelationWithin (sizesOf e)) (relationsOf e) 0 pastRelation some-relation (w .each) .site
 
 module _ (k : Costs) (e : Envelope) where
   -- ---- the steps
@@ -48,26 +62,6 @@ module _ (k : Costs) (e : Envelope) where
   unfolding greedySteps
   plan-greedy = greedy-run (kindOf k e) step-tells (length (legalSteps e)) (legalSteps e) (localProfile e) (le-refl _)
 
-  -- each of its steps, in the profile that the steps before it leave: no legal step that is not among those gains more, and
-  -- those that gain as much come later by left relation, left column, right relation, right column
-  pub plan-choice : (front : List Step) (s : Step) (rest : List Step) → greedySteps k e ≡ front ++ s ∷ rest
-      → (stepCost k e (afterAll (kindOf k e) (localProfile e) front) s < benefit e (afterAll (kindOf k e) (localProfile e) front) s)
-      × ((t : Step) → legal e t ≡ true → (List·Memᴰ t front → ⊥)
-      → (t ≡ s)
-      ⊎ ((gain (kindOf k e) (afterAll (kindOf k e) (localProfile e) front) t < gain (kindOf k e) (afterAll (kindOf k e) (localProfile e) front) s)
-      ⊎ ((gain (kindOf k e) (afterAll (kindOf k e) (localProfile e) front) t ≡ gain (kindOf k e) (afterAll (kindOf k e) (localProfile e) front) s)
-      × StepBefore s t)))
-  plan-choice front s rest q =
-      let (above, others) =
-      greedy-choice (kindOf k e) step-tells StepBefore (legalSteps e) (localProfile e) front s rest (legal-ordered e) (rw q at plan-greedy) in
-      (above, λ t l out. others t (legal-member e t .0 l) out)
-
-  -- and where it ends no legal step that is not in it brings more than it costs
-  pub plan-stops : (t : Step) → legal e t ≡ true → (List·Memᴰ t (greedySteps k e) → ⊥)
-      → benefit e (afterAll (kindOf k e) (localProfile e) (greedySteps k e)) t ≤ stepCost k e (afterAll (kindOf k e) (localProfile e) (greedySteps k e)) t
-  plan-stops t l out =
-      greedy-stops (kindOf k e) step-tells (legalSteps e) (localProfile e) (greedySteps k e) plan-greedy (legal-member e t .0 l) out
-
   abbrev home : ℕ
   home = siteFor k e (localProfile e)
 
@@ -75,22 +69,22 @@ module _ (k : Costs) (e : Envelope) where
   totalOf h = total (kindOf k e) (localProfile e) (h .site) (h .steps)
 
   -- whatever holds of the program after drops, where its total is below, and of no steps at home
-  planned-either : (Q : Handed Step → Type 0) → (totalOf (reduced k e) < assemblyAt k e (localProfile e) home → Q (reduced k e))
+  planned-either : (Q : Handed Step → Type 0) → (totalOf (afterDrops k e) < assemblyAt k e (localProfile e) home → Q (afterDrops k e))
       → Q (record { steps = []; site = home }) → Q (planned k e)
   unfolding planned
-  planned-either Q f q = go (fallback-is (kindOf k e) (localProfile e) home (reduced k e))
+  planned-either Q f q = go (fallback-is (kindOf k e) (localProfile e) home (afterDrops k e))
     where
       found : Handed Step
-      found = fallback (kindOf k e) (localProfile e) home (reduced k e)
+      found = fallback (kindOf k e) (localProfile e) home (afterDrops k e)
 
-      go : ((found ≡ reduced k e) × (totalOf (reduced k e) < assemblyAt k e (localProfile e) home)) ⊎ (found ≡ record { steps = []; site = home })
+      go : ((found ≡ afterDrops k e) × (totalOf (afterDrops k e) < assemblyAt k e (localProfile e) home)) ⊎ (found ≡ record { steps = []; site = home })
           → Q found
       go (inl (u, l)) = rw u (f l)
       go (inr u) = rw u q
 
-  pub reduced-part : Sublistᴰ (reduced k e .steps) (greedySteps k e)
-  unfolding reduced dropsAt
-  reduced-part = drops-part (kindOf k e) noStep (localProfile e) site (λ (s : Step). isAt e site (s .left .relation)) (greedySteps k e)
+  pub after-drops-part : Sublistᴰ (afterDrops k e .steps) (greedySteps k e)
+  unfolding afterDrops dropsAt
+  after-drops-part = drops-part (kindOf k e) noStep (localProfile e) site (λ (s : Step). isAt e site (s .left .relation)) (greedySteps k e)
     where
       site : ℕ
       site = siteFor k e (afterAll (kindOf k e) (localProfile e) (greedySteps k e))
@@ -98,7 +92,7 @@ module _ (k : Costs) (e : Envelope) where
   -- of what the greedy program has, in its order
   pub plan-part : Sublistᴰ (planned k e .steps) (greedySteps k e)
   plan-part =
-      planned-either (λ (h : Handed Step). Sublistᴰ (h .steps) (greedySteps k e)) (λ _. reduced-part) (Sublistᴰ·nil-sublist (greedySteps k e))
+      planned-either (λ (h : Handed Step). Sublistᴰ (h .steps) (greedySteps k e)) (λ _. after-drops-part) (Sublistᴰ·nil-sublist (greedySteps k e))
 
   -- of what the greedy program has every step is legal
   pub part-legal : (ss : List Step) → Sublistᴰ ss (greedySteps k e) → Every (λ (s : Step). legal e s ≡ true) ss
@@ -125,55 +119,36 @@ module _ (k : Costs) (e : Envelope) where
       part-ordered Apart plan-part
       (greedy-once (kindOf k e) step-tells (legalSteps e) (localProfile e) (greedySteps k e) plan-greedy)
 
-  pub plan-few : Within e → length (planned k e .steps) ≤ 156
-  plan-few w = part-few w (planned k e .steps) plan-part
-
   -- ---- the site
 
   abbrev sites : List ℕ
   sites = filter (holds e) (below 8)
 
   pub site-chosen : (p : Profile) → Within e → List·Memᴰ (siteFor k e p) sites
-  unfolding siteFor siteOf isAt holds
+  unfolding siteFor
   site-chosen p w = go (cheapest (kindOf k e) p sites) (cheapest-is (kindOf k e) p sites)
     where
-      some-relation : 0 < length (relationsOf e)
-      some-relation = omega (arith, w .relations, w .whole-relations)
-
-      low : getD (relationsOf e) 0 pastRelation .site ≤ 7
-      low = every-getD (RelationWithin (sizesOf e)) (relationsOf e) 0 pastRelation some-relation (w .each) .site
-
-      first : List·Memᴰ (siteOf e 0) sites
-      first =
-          filter-mem (holds e) (below-mem (siteOf e 0) 8 (omega (arith, low)))
-          (any-of (isAt e (siteOf e 0)) (below-mem 0 (relationCount e) (omega (arith, w .relations)))
-          (and-both (lt-ltb 0 (relationCount e) (omega (arith, w .relations))) (eq-eqb (siteOf e 0) (siteOf e 0) refl)))
-
       go : (o : Option ℕ) → CheapestOf (kindOf k e) p sites o → List·Memᴰ (elim o [ none ↦ 0 | some site ↦ site ]) sites
-      go none c = absurd (List·Memᴰ·not-nil (rw c at first))
+      go none c = absurd (List·Memᴰ·not-nil (rw c at (some-site e w)))
       go (some a) c = rw (c .stands) (Memᴰ·append-right (c .before) (List·Memᴰ·head refl))
 
-  pub reduced-site : Within e → List·Memᴰ (reduced k e .site) sites
-  unfolding reduced
-  reduced-site w = site-chosen (afterAll (kindOf k e) (localProfile e) (greedySteps k e)) w
+  pub after-drops-site : Within e → List·Memᴰ (afterDrops k e .site) sites
+  unfolding afterDrops
+  after-drops-site w = site-chosen (afterAll (kindOf k e) (localProfile e) (greedySteps k e)) w
 
   pub plan-site-chosen : Within e → List·Memᴰ (planned k e .site) sites
   plan-site-chosen w =
-      planned-either (λ (h : Handed Step). List·Memᴰ (h .site) sites) (λ _. reduced-site w) (site-chosen (localProfile e) w)
+      planned-either (λ (h : Handed Step). List·Memᴰ (h .site) sites) (λ _. after-drops-site w) (site-chosen (localProfile e) w)
 
   pub plan-site : Within e → holds e (planFor k e .site) ≡ true
   unfolding planFor
   plan-site w = filter-from (holds e) (below 8) (plan-site-chosen w) .1
 
-  pub plan-site-below : Within e → planFor k e .site < 8
-  unfolding planFor
-  plan-site-below w = below-from 8 (filter-from (holds e) (below 8) (plan-site-chosen w) .0)
-
   -- ---- the total
 
   pub plan-total : planFor k e .total ≤ planFor k e .local
   unfolding planFor estimated planned
-  plan-total = fallback-total (kindOf k e) (localProfile e) (siteFor k e (localProfile e)) (reduced k e)
+  plan-total = fallback-total (kindOf k e) (localProfile e) (siteFor k e (localProfile e)) (afterDrops k e)
 
   -- where steps are handed out it is strictly below
   pub plan-below : (planned k e .steps ≡ [] → ⊥) → planFor k e .total < planFor k e .local
@@ -186,10 +161,6 @@ module _ (k : Costs) (e : Envelope) where
   pub plan-lines : take (planFor k e .count) (planFor k e .lines) ≡ linesOf k e (localProfile e) (planned k e .steps)
   unfolding planFor
   plan-lines = estimated-lines k e (planned k e .steps) (planned k e .site)
-
-  pub plan-long : Within e → length (planFor k e .lines) ≡ 156
-  unfolding planFor
-  plan-long w = estimated-long k e (planned k e .steps) (planned k e .site) (plan-few w)
 
   pub plan-sum : planFor k e .total
       ≡ sum (map (λ (l : Line). l .cost) (take (planFor k e .count) (planFor k e .lines))) + planFor k e .assembly

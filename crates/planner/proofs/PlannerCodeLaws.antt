@@ -26,7 +26,7 @@ use Rattle.estimates.specs.Profile.{localProfile}
 use Rattle.estimates.specs.Costs.{plainCosts, assemblyAt}
 use Rattle.estimates.specs.Kind.{afterAll, total}
 use Rattle.estimates.specs.Estimate.{kindOf, line, estimated}
-use Rattle.planner.specs.Plan.{siteFor, greedySteps, dropsAt, reduced, planned, planFor, noPlan, planOf}
+use Rattle.planner.specs.Plan.{siteFor, greedySteps, dropsAt, afterDrops, planned, planFor, noPlan, planOf}
 use Rattle.estimates.specs.Ready.{Ready}
 use Rattle.estimates.specs.Ready.{Bounded}
 use Rattle.planner.specs.Candidates.{shownSteps}
@@ -36,7 +36,8 @@ use Rattle.estimates.specs.declared.lines.Line.{Line}
 use Rattle.planner.specs.declared.plans.Plan.{Plan}
 use Rattle.estimates.specs.declared.lines.Estimate.{Estimate}
 use Rattle.planner.specs.declared.choice.Greedy.{Greedy}
-use Rattle.planner.proofs.PlanLaws.{part-legal, part-few, site-chosen, reduced-part, reduced-site, plan-part, plan-site-chosen}
+use Rattle.estimates.proofs.EstimateLaws.{estimated-whole}
+use Rattle.planner.proofs.PlanLaws.{part-legal, part-few, site-chosen, after-drops-part, after-drops-site, plan-part, plan-site-chosen}
 use Rattle.planner.proofs.SiteCodeLaws.{after-sited}
 use Rattle.planner.proofs.DropCodeLaws.{with-steps, with-acceptable}
 
@@ -51,7 +52,7 @@ module _ (k : Costs) (e : Envelope) (local : Profile) (w : Ready k e local) wher
 
   module _ (g : Greedy)
       (u : g ≡ record { steps = shownSteps (greedySteps k e); profile = afterAll (kindOf k e) (localProfile e) (greedySteps k e) }) where
-    pub greedy-sited : Bounded k e (g .profile) × ((site : ℕ) → assemblyAt k e (g .profile) site < 16320000001)
+    pub greedy-sited : Bounded k (g .profile) × ((site : ℕ) → assemblyAt k e (g .profile) site < 16320000001)
     greedy-sited =
         after-sited k e local w (g .profile) (greedySteps k e) (ap (λ (x : Greedy). x .profile) u)
         (part-legal k e (greedySteps k e) (Sublistᴰ·refl (greedySteps k e)))
@@ -65,41 +66,42 @@ module _ (k : Costs) (e : Envelope) (local : Profile) (w : Ready k e local) wher
           rw (program-is, v)
           (part-acceptable (siteFor k e (g .profile)) (site-chosen k e (g .profile) (w .within)) (greedySteps k e) (Sublistᴰ·refl (greedySteps k e)))
 
-      pub reduced-is : (r : Program)
+      pub after-drops-is : (r : Program)
           → r ≡ programWith site (dropsAt k e site (stepsOf (record { site = site; count = g .steps .count; steps = g .steps .all })))
-          → r ≡ programWith (reduced k e .site) (reduced k e .steps)
-      unfolding reduced
-      reduced-is r h =
+          → r ≡ programWith (afterDrops k e .site) (afterDrops k e .steps)
+      unfolding afterDrops
+      after-drops-is r h =
           h ∙ ap (λ (p : Program). programWith site (dropsAt k e site (stepsOf p))) program-is
           ∙ rw (with-steps e site (greedySteps k e), v, u)
 
   -- ---- the fallback
 
   module _ (home alone : ℕ) (a : home ≡ siteFor k e local) (b : alone ≡ assemblyAt k e local home)
-      (p : Program) (u : p ≡ programWith (reduced k e .site) (reduced k e .steps)) where
-    pub reduced-acceptable : Acceptable e p
-    reduced-acceptable = rw u (part-acceptable (reduced k e .site) (reduced-site k e (w .within)) (reduced k e .steps) (reduced-part k e))
+      (p : Program) (u : p ≡ programWith (afterDrops k e .site) (afterDrops k e .steps)) where
+    pub after-drops-acceptable : Acceptable e p
+    after-drops-acceptable = rw u (part-acceptable (afterDrops k e .site) (after-drops-site k e (w .within)) (afterDrops k e .steps) (after-drops-part k e))
 
-    module _ (t : ℕ) (v : t ≡ total (kindOf k e) (localProfile e) (p .site) (stepsOf p)) where
-      total-reduced : t ≡ total (kindOf k e) (localProfile e) (reduced k e .site) (reduced k e .steps)
-      total-reduced = v ∙ rw (u, with-steps e (reduced k e .site) (reduced k e .steps))
+    module _ (x : Estimate) (v : x ≡ estimated k e (stepsOf p) (p .site)) where
+      total-after-drops : x .total ≡ total (kindOf k e) (localProfile e) (afterDrops k e .site) (afterDrops k e .steps)
+      total-after-drops =
+          estimated-whole k e (stepsOf p) (p .site) x v ∙ rw (u, with-steps e (afterDrops k e .site) (afterDrops k e .steps))
 
       alone-home : alone ≡ assemblyAt k e (localProfile e) (siteFor k e (localProfile e))
       alone-home = b ∙ rw (a, w .local)
 
-      pub planned-below : t < alone → p ≡ programWith (planned k e .site) (planned k e .steps)
+      pub planned-below : x .total < alone → p ≡ programWith (planned k e .site) (planned k e .steps)
       unfolding planned
       planned-below h =
-          u ∙ rw (lt-ltb (total (kindOf k e) (localProfile e) (reduced k e .site) (reduced k e .steps))
-          (assemblyAt k e (localProfile e) (siteFor k e (localProfile e))) (omega (arith, total-reduced, alone-home)))
+          u ∙ rw (lt-ltb (total (kindOf k e) (localProfile e) (afterDrops k e .site) (afterDrops k e .steps))
+          (assemblyAt k e (localProfile e) (siteFor k e (localProfile e))) (omega (arith, total-after-drops, alone-home)))
 
-      pub planned-home : alone ≤ t → (z : Step) → z ≡ noStep
+      pub planned-home : alone ≤ x .total → (z : Step) → z ≡ noStep
           → _≡_ {A = Program} (record { site = home; count = 0; steps = replicate 156 z }) (programWith (planned k e .site) (planned k e .steps))
       unfolding planned
       planned-home h z f =
           rw (
-            le-ltb (total (kindOf k e) (localProfile e) (reduced k e .site) (reduced k e .steps))
-                (assemblyAt k e (localProfile e) (siteFor k e (localProfile e))) (omega (arith, total-reduced, alone-home)),
+            le-ltb (total (kindOf k e) (localProfile e) (afterDrops k e .site) (afterDrops k e .steps))
+                (assemblyAt k e (localProfile e) (siteFor k e (localProfile e))) (omega (arith, total-after-drops, alone-home)),
             f,
             a,
             w .local,

@@ -164,13 +164,13 @@ module _ (k : Costs) (e : Envelope) (p : Profile) where
 -- ---- the profiles for which a site is looked for: what legal steps leave
 
 module _ (k : Costs) (e : Envelope) (local : Profile) (ready : Ready k e local) where
-  pub inside-sited : (p : Profile) → Inside e p → Bounded k e p × ((site : ℕ) → assemblyAt k e p site < 16320000001)
+  pub inside-sited : (p : Profile) → Inside e p → Bounded k p × ((site : ℕ) → assemblyAt k e p site < 16320000001)
   inside-sited p i =
       (inside-bounded k e local ready p i, λ site. omega (arith, assembly-most e (ready .within) k 1 (ready .cheap) site p i))
 
-  pub local-sited : Bounded k e local × ((site : ℕ) → assemblyAt k e local site < 16320000001)
+  pub local-sited : Bounded k local × ((site : ℕ) → assemblyAt k e local site < 16320000001)
   local-sited = inside-sited local (rw (ready .local) (local-inside e))
 
   pub after-sited : (p : Profile) (ss : List Step) → p ≡ afterAll (kindOf k e) (localProfile e) ss → Every (λ (s : Step). legal e s ≡ true) ss
-      → Bounded k e p × ((site : ℕ) → assemblyAt k e p site < 16320000001)
+      → Bounded k p × ((site : ℕ) → assemblyAt k e p site < 16320000001)
   after-sited p ss f t = inside-sited p (rw f (after-inside e (ready .within) k (localProfile e) ss (local-inside e) t))

@@ -64,7 +64,7 @@ module _ {A : Type 0} where
   part-map f (Sublistᴰ·cons h) = Sublistᴰ·cons (part-map f h)
   part-map f (Sublistᴰ·cons-cons e h) = Sublistᴰ·cons-cons (ap f e) (part-map f h)
 
-  ordered-behind : (Before : A → A → Type 0) (a b : List A) → Ordered Before (a ++ b) → Ordered Before b
+  pub ordered-behind : (Before : A → A → Type 0) (a b : List A) → Ordered Before (a ++ b) → Ordered Before b
   ordered-behind Before [] b o = o
   ordered-behind Before (y ∷ a) b o = ordered-behind Before a b (o .1)
 

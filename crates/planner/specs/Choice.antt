@@ -21,11 +21,11 @@ pub record Handed (S : Type 0) : Type 0 where
   pub site : ℕ
 
 -- the numbers of a program's steps, by their costs, dearest first, earlier first on a tie: n of those that are left
-abbrev pub dearest : List ℕ → ℕ → List ℕ → List ℕ
-dearest cs zero left = []
-dearest cs (suc n) left =
+abbrev pub dearestFirst : List ℕ → ℕ → List ℕ → List ℕ
+dearestFirst cs zero left = []
+dearestFirst cs (suc n) left =
     elim (firstOfGreatest (λ i. suc (getD cs i 0)) left)
-    [ none ↦ [] | some i ↦ i ∷ dearest cs n (filter (λ j. not (eqb i j)) left) ]
+    [ none ↦ [] | some i ↦ i ∷ dearestFirst cs n (filter (λ j. not (eqb i j)) left) ]
 
 -- the steps of some numbers
 abbrev pub stepsAt : {S : Type 0} → S → List S → List ℕ → List S
@@ -54,6 +54,10 @@ module _ {P S : Type 0} (k : Kind P S) where
   cheapest p [] = none
   cheapest p (a ∷ l) = cheaper p a (cheapest p l)
 
+  -- 0 where there is none
+  abbrev pub siteAmong : P → List ℕ → ℕ
+  siteAmong p l = elim (cheapest p l) [ none ↦ 0 | some site ↦ site ]
+
   -- each number once, in order: without it where that makes the total strictly lower
   abbrev pub dropped : P → ℕ → (List ℕ → List S) → List ℕ → List ℕ → List ℕ
   dropped p site steps [] kept = kept
@@ -66,7 +70,7 @@ module _ {P S : Type 0} (k : Kind P S) where
   drops z p site mine ss =
       let numbers = below (length ss) in
       let there = filter (λ i. mine (getD ss i z)) numbers in
-      let order = dearest (costs k p ss) (length there) there in
+      let order = dearestFirst (costs k p ss) (length there) there in
       stepsAt z ss (dropped p site (stepsAt z ss) order numbers)
 
   -- the fallback

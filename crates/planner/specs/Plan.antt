@@ -1,7 +1,6 @@
 -- The planner with the estimate of 01, from an envelope to the program with each step's benefit and cost in the program
 -- handed out, the site, assembly, total and local-only total.
 use mathlib.Core.List.{List}
-use mathlib.Core.Option.{none, some}
 use Prim.Native.Nat.{ℕ}
 use lib.ListN.{length, replicate}
 use Rattle.ground.specs.Lists.{filter, below}
@@ -16,7 +15,7 @@ use Rattle.estimates.specs.Profile.{localProfile}
 use Rattle.estimates.specs.Costs.{plainCosts, assemblyAt}
 use Rattle.estimates.specs.Kind.{afterAll}
 use Rattle.estimates.specs.Estimate.{kindOf, line, estimated}
-use Rattle.planner.specs.Choice.{Handed, greedy, cheapest, drops, fallback}
+use Rattle.planner.specs.Choice.{Handed, greedy, siteAmong, drops, fallback}
 use Rattle.estimates.specs.declared.profiles.Profile.{Profile}
 use Rattle.estimates.specs.declared.costs.Costs.{Costs}
 use Rattle.planner.specs.declared.plans.Plan.{Plan}
@@ -25,7 +24,7 @@ use Rattle.planner.specs.declared.plans.Plan.{Plan}
 
 -- the cheapest site that holds a relation
 unfoldable pub siteFor : Costs → Envelope → Profile → ℕ
-siteFor k e p = elim (cheapest (kindOf k e) p (filter (holds e) (below 8))) [ none ↦ 0 | some site ↦ site ]
+siteFor k e p = siteAmong (kindOf k e) p (filter (holds e) (below 8))
 
 unfoldable pub greedySteps : Costs → Envelope → List Step
 greedySteps k e = greedy (kindOf k e) (length (legalSteps e)) (legalSteps e) (localProfile e)
@@ -35,14 +34,14 @@ unfoldable pub dropsAt : Costs → Envelope → ℕ → List Step → List Step
 dropsAt k e site ss = drops (kindOf k e) noStep (localProfile e) site (λ (s : Step). isAt e site (s .left .relation)) ss
 
 -- the greedy program at its cheapest site, after drops
-unfoldable pub reduced : Costs → Envelope → Handed Step
-reduced k e =
+unfoldable pub afterDrops : Costs → Envelope → Handed Step
+afterDrops k e =
     let ss = greedySteps k e in
     let site = siteFor k e (afterAll (kindOf k e) (localProfile e) ss) in
     record { steps = dropsAt k e site ss; site = site }
 
 unfoldable pub planned : Costs → Envelope → Handed Step
-planned k e = fallback (kindOf k e) (localProfile e) (siteFor k e (localProfile e)) (reduced k e)
+planned k e = fallback (kindOf k e) (localProfile e) (siteFor k e (localProfile e)) (afterDrops k e)
 
 -- ---- what is handed out
 

@@ -32,7 +32,7 @@ pub(crate) struct Greedy {
 
 // Benefit minus cost; 0 where the benefit is not above the cost.
 fn gain(costs: Costs, envelope: Envelope, profile: Profile, step: Step) -> u64
-    requires { ⌜ Bounded costs envelope profile × Shrinks envelope profile step ⌝ }
+    requires { ⌜ Bounded costs profile × Shrinks envelope profile step ⌝ }
     ensures { λ r. ⌜ r ≡ gain (kindOf costs envelope) profile step ⌝ }
 {
     let line = estimates::estimator::line_of(costs, envelope, profile, step);
@@ -51,7 +51,7 @@ fn first_of_greatest(
     steps: [Step; 156],
     n: u8,
 ) -> Choice
-    requires { ⌜ (n ≤ 156) × Bounded costs envelope profile × ((i : ℕ) → i < n → Shrinks envelope profile (getD steps i noStep)) ⌝ }
+    requires { ⌜ (n ≤ 156) × Bounded costs profile × ((i : ℕ) → i < n → Shrinks envelope profile (getD steps i noStep)) ⌝ }
     ensures { λ r. ⌜ r ≡ shownChoice (firstOfGreatest (gain (kindOf costs envelope) profile) (take n steps)) ⌝ }
 {
     let mut best = estimates::lines::no_step();

@@ -44,10 +44,10 @@ fn dropped(
             left,
             fewer.count,
         );
-        let anew = estimates::totals::total_of(costs, envelope, local, shorter);
-        if anew < total {
+        let anew = estimates::estimator::estimated(costs, envelope, local, shorter);
+        if anew.total < total {
             kept = fewer;
-            total = anew;
+            total = anew.total;
         }
         i += 1;
     }

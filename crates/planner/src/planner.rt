@@ -10,13 +10,13 @@ ghost use Rattle.envelopes.specs.Rules.{Within, tidy};
 ghost use Rattle.envelopes.specs.Envelope.{readEnvelope, checkEnvelope};
 ghost use Rattle.papers.specs.Programs.{programWith};
 ghost use Rattle.estimates.specs.Costs.{plainCosts, assemblyAt};
-ghost use Rattle.planner.specs.Plan.{siteFor, reduced, planned, planFor, noPlan, planOf};
+ghost use Rattle.planner.specs.Plan.{siteFor, afterDrops, planned, planFor, noPlan, planOf};
 ghost use Rattle.estimates.specs.Ready.{Ready};
 
 // The greedy program at its cheapest site, after drops.
-fn reduced(costs: Costs, envelope: Envelope, local: Profile) -> Program
+fn after_drops(costs: Costs, envelope: Envelope, local: Profile) -> Program
     requires { ⌜ Ready costs envelope local ⌝ }
-    ensures { λ r. ⌜ r ≡ programWith (reduced costs envelope .site) (reduced costs envelope .steps) ⌝ }
+    ensures { λ r. ⌜ r ≡ programWith (afterDrops costs envelope .site) (afterDrops costs envelope .steps) ⌝ }
 {
     let greedy = crate::choice::greedy_steps(costs, envelope, local);
     let behind = greedy.profile;
@@ -35,9 +35,9 @@ fn planned(costs: Costs, envelope: Envelope, local: Profile, home: u8, alone: u6
     requires { ⌜ Ready costs envelope local × (home ≡ siteFor costs envelope local) × (alone ≡ assemblyAt costs envelope local home) ⌝ }
     ensures { λ r. ⌜ r ≡ programWith (planned costs envelope .site) (planned costs envelope .steps) ⌝ }
 {
-    let program = reduced(costs, envelope, local);
-    let total = estimates::totals::total_of(costs, envelope, local, program);
-    if total < alone {
+    let program = after_drops(costs, envelope, local);
+    let estimate = estimates::estimator::estimated(costs, envelope, local, program);
+    if estimate.total < alone {
         return program;
     }
     Program {

@@ -15,7 +15,7 @@ const TOP: u64 = 16320000001;
 
 // What assembly at a site costs, or TOP where the site holds no relation.
 fn held_assembly(costs: Costs, envelope: Envelope, profile: Profile, site: u8) -> u64
-    requires { ⌜ Bounded costs envelope profile ⌝ }
+    requires { ⌜ Bounded costs profile ⌝ }
     ensures { λ r. ⌜ r ≡ pick (holds envelope site) (assemblyAt costs envelope profile site) 16320000001 ⌝ }
 {
     if contents::sites::holds_relation(envelope, site) {
@@ -26,7 +26,7 @@ fn held_assembly(costs: Costs, envelope: Envelope, profile: Profile, site: u8) -
 }
 
 pub(crate) fn site_for(costs: Costs, envelope: Envelope, profile: Profile) -> u8
-    requires { ⌜ Bounded costs envelope profile × ((site : ℕ) → assemblyAt costs envelope profile site < 16320000001) ⌝ }
+    requires { ⌜ Bounded costs profile × ((site : ℕ) → assemblyAt costs envelope profile site < 16320000001) ⌝ }
     ensures { λ r. ⌜ r ≡ siteFor costs envelope profile ⌝ }
 {
     let mut best: u8 = 0;

@@ -46,9 +46,21 @@ slice-aggregate-write-all c = sym (length-take-le (c .before .before .list-paper
 write-all-requires : tie.Need-write-all-requires
 write-all-requires c κs = search needs
 
+-- src/main.rt:9:26
+slice-aggregate-write-all-2 : tie.Need-slice-aggregate-write-all-2
+slice-aggregate-write-all-2 c = search needs
+
+-- src/main.rt:9:9
+write-all-requires-2 : tie.Need-write-all-requires-2
+write-all-requires-2 c κs = search needs
+
 -- src/main.rt:3:1
 returns : tie.Need-returns
 returns c = search needs
+
+-- src/main.rt:3:1
+returns-2 : tie.Need-returns-2
+returns-2 c = search needs
 
 pub main-spec : {M : Type 1} → statement M
 main-spec =
@@ -63,4 +75,7 @@ main-spec =
     array-share-prefix-out
     slice-aggregate-write-all
     write-all-requires
-    returns)
+    slice-aggregate-write-all-2
+    write-all-requires-2
+    returns
+    returns-2)

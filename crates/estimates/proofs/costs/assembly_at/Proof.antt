@@ -33,7 +33,7 @@ sent-requires c κs = search needs
 
 -- src/costs.rt:94:9
 add-total : tie.Need-add-total Inv-loop μ-loop
-add-total c = let a = c .before .before .before .before .args in omega (arith, sent-few (a .costs) (a .envelope) (a .profile) (c .before .before .before .before .pre .0) (c .before .before .before .before .pre .1) (c .before .before .before .before .pre .2) (a .site) _ _ (c .sent .ensures))
+add-total c = let a = c .before .before .before .before .args in omega (arith, sent-few (a .costs) (a .envelope) (a .profile) (c .before .before .before .before .pre) (a .site) _ _ (c .sent .ensures))
 
 -- src/costs.rt:95:9
 add-relation : tie.Need-add-relation Inv-loop μ-loop
@@ -45,7 +45,7 @@ loop-less c = omega arith
 
 -- src/costs.rt:92:5
 loop-again : tie.Need-loop-again Inv-loop μ-loop
-loop-again c = let a = c .before .before .before .before .args in search (assembling-more, c .before .before .before .before .pre .0, c .before .before .before .before .pre .1, c .before .before .before .before .pre .2, needs)
+loop-again c = search (assembling-more, needs)
 
 -- src/costs.rt:85:1
 returns : tie.Need-returns Inv-loop μ-loop

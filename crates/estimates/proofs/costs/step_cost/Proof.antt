@@ -24,10 +24,10 @@ site-of-requires-2 : tie.Need-site-of-requires-2
 site-of-requires-2 c κs = search needs
 
 mul-priced : tie.Need-mul-priced
-mul-priced c = let a = c .before .before .before .before .before .before .before .args in let w : c .before .before .before .before .column-of .result .width < 256 = omega arith in omega (arith, cost-size (a .profile) (a .step) _ _ (c .before .before .count-at .ensures) (c .before .before .before .before .before .before .before .pre .1 (8 * a .step .right .relation + a .step .right .column)) w)
+mul-priced c = let a = c .before .before .before .before .before .before .before .args in let w : c .before .before .before .before .column-of .result .width < 256 = omega arith in omega (arith, cost-size (a .profile) (a .step) _ _ (c .before .before .count-at .ensures) (c .before .before .before .before .before .before .before .pre .counts (8 * a .step .right .relation + a .step .right .column)) w)
 
 priced-requires : tie.Need-priced-requires
-priced-requires c κs = let a = c .before .before .before .before .before .before .before .args in let w : c .before .before .before .before .column-of .result .width < 256 = omega arith in (c .before .before .before .before .before .before .before .pre .0, omega (arith, cost-size (a .profile) (a .step) _ _ (c .before .before .count-at .ensures) (c .before .before .before .before .before .before .before .pre .1 (8 * a .step .right .relation + a .step .right .column)) w))
+priced-requires c κs = let a = c .before .before .before .before .before .before .before .args in let w : c .before .before .before .before .column-of .result .width < 256 = omega arith in (c .before .before .before .before .before .before .before .pre .prices, omega (arith, cost-size (a .profile) (a .step) _ _ (c .before .before .count-at .ensures) (c .before .before .before .before .before .before .before .pre .counts (8 * a .step .right .relation + a .step .right .column)) w))
 
 returns : tie.Need-returns
 returns c = let a = c .before .before .before .before .before .before .before .before .args in cost-is (a .costs) (a .envelope) (a .profile) (a .step) _ _ _ _ _ (c .before .before .before .before .before .column-of .ensures) (c .before .before .before .count-at .ensures) (c .before .before .site-of .ensures) (c .before .site-of2 .ensures) (c .priced .ensures)

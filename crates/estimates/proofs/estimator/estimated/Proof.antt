@@ -1,9 +1,8 @@
-use Rattle.estimates.proofs.CostLaws.{width-most}
 use Rattle.estimates.specs.declared.lines.Line.{Line}
 use mathlib.Core.Path.{ap}
 use Prim.Native.Nat.{_-_}
-use Rattle.estimates.proofs.TotalCodeLaws.{cost-few, rows-low, counts-low, step-few}
-use Rattle.estimates.proofs.EstimatorCodeLaws.{Estimating, estimating-start, estimating-more, estimated-through, line-ready, assembly-small}
+use Rattle.estimates.proofs.SpendingCodeLaws.{cost-few, rows-low, counts-low, step-few}
+use Rattle.estimates.proofs.EstimatorCodeLaws.{Estimating, estimating-start, estimating-more, estimated-through, now-bounded, line-ready, assembly-small}
 use borrow.Author.Needs.{needs}
 use native.Mathlib.Omega.{arith}
 use Rattle.estimates.proofs.estimator.estimated.Statement.{statement}
@@ -75,7 +74,7 @@ loop-again c = search (estimating-more, needs)
 
 -- src/estimator.rt:74:9
 assembly-at-requires : tie.Need-assembly-at-requires Inv-loop μ-loop
-assembly-at-requires c κs = (c .before .before .before .before .before .pre .0 .cheap, rows-low (c .before .before .before .before .before .args .costs) (c .before .before .before .before .before .args .envelope) (c .before .before .before .before .before .args .local) (c .before .before .before .before .before .pre .0) _ _ _ _ _ (c .before .loop .inv .spending), width-most (c .before .before .before .before .before .args .envelope) (c .before .before .before .before .before .pre .0 .within))
+assembly-at-requires c κs = now-bounded (c .before .before .before .before .before .args .costs) (c .before .before .before .before .before .args .envelope) (c .before .before .before .before .before .args .local) (c .before .before .before .before .before .pre .0) _ _ _ _ _ _ (c .before .loop .inv)
 
 -- src/estimator.rt:80:16
 add-t24 : tie.Need-add-t24 Inv-loop μ-loop

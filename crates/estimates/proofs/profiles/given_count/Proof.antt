@@ -4,7 +4,7 @@ use Rattle.estimates.proofs.profiles.given_count.Statement.{statement}
 use Rattle.estimates.proofs.profiles.given_count.Tie as tie
 use Rattle.estimates.proofs.profiles.given_count.Reads as reads
 use Rattle.estimates.proofs.profiles.given_count.Lts as lts
-use Rattle.estimates.proofs.profiles.column_of.Reads as column-of-reads
+use Rattle.estimates.proofs.columns.column_of.Reads as column-of-reads
 
 -- src/profiles.rt:116:19
 cast-t6 : tie.Need-cast-t6

@@ -1,6 +1,10 @@
 use mathlib.Core.Logic.{⊎-elim}
 use Prim.Native.Nat.{_-_}
-use Rattle.planner.proofs.ChoiceCodeLaws.{Seeking, seeking-start, seeking-more, seeking-less, seeking-none, seeking-some}
+use Rattle.planner.proofs.ChoosingLaws.{Seeking, seeking-more, seeking-less}
+use Rattle.planner.proofs.ChoiceCodeLaws.{choice-start, choice-nothing, choice-chosen}
+use Rattle.papers.specs.Programs.{noStep}
+use Rattle.estimates.specs.Estimate.{kindOf}
+use Rattle.planner.specs.Choice.{gain}
 use borrow.Author.Needs.{needs}
 use native.Mathlib.Omega.{arith}
 use Rattle.planner.proofs.choice.first_of_greatest.Statement.{statement}
@@ -11,7 +15,7 @@ use Rattle.estimates.proofs.lines.no_step.Reads as no-step-reads
 use Rattle.planner.proofs.choice.gain.Reads as gain-reads
 
 abbrev Inv-loop : tie.InvT-loop
-Inv-loop costs envelope profile n steps best₀ most₀ i₀ best most i = Seeking costs envelope profile steps n i best most
+Inv-loop costs envelope profile n steps best₀ most₀ i₀ best most i = Seeking (gain (kindOf costs envelope) profile) steps n i best most
 
 abbrev μ-loop : tie.MeasureT-loop
 μ-loop costs envelope profile n steps best₀ most₀ i₀ best most i = n - i
@@ -22,7 +26,7 @@ no-step-requires c κs = search needs
 
 -- src/choice.rt:54:5
 loop-holds : tie.Need-loop-holds Inv-loop μ-loop
-loop-holds c = search (seeking-start, needs)
+loop-holds c = search (choice-start, needs)
 
 -- src/choice.rt:55:20
 mul-step : tie.Need-mul-step Inv-loop μ-loop
@@ -48,17 +52,17 @@ loop-less c = omega arith
 loop-again : tie.Need-loop-again Inv-loop μ-loop
 loop-again c = let a = c .before .before .before .before .before .before .args in let l = c .before .before .before .before .loop in let f = c .before .before .before .before .before .before .pre .0 in
     ⊎-elim
-    (λ w. seeking-more (a .costs) (a .envelope) (a .profile) _ (a .n) f (search needs) (l .i) (l .best) (l .most) (l .inv) (search needs) _ (c .before .gain .ensures) (w .0 .taken) _ _ (w .1) (w .2))
-    (λ w. seeking-less (a .costs) (a .envelope) (a .profile) _ (a .n) f (search needs) (l .i) (l .best) (l .most) (l .inv) (search needs) _ (c .before .gain .ensures) (w .0 .left) _ _ (w .1) (w .2))
+    (λ w. seeking-more (gain (kindOf (a .costs) (a .envelope)) (a .profile)) _ (a .n) 156 f (search needs) noStep (l .i) (l .best) (l .most) (l .inv) (search needs) _ (c .before .gain .ensures) (w .0 .taken) _ _ (w .1) (w .2))
+    (λ w. seeking-less (gain (kindOf (a .costs) (a .envelope)) (a .profile)) _ (a .n) 156 f (search needs) noStep (l .i) (l .best) (l .most) (l .inv) (search needs) _ (c .before .gain .ensures) (w .0 .left) _ _ (w .1) (w .2))
     (c .if1 .came)
 
 -- src/choice.rt:41:1
 returns : tie.Need-returns Inv-loop μ-loop
-returns c = search (seeking-none, needs)
+returns c = search (choice-nothing, needs)
 
 -- src/choice.rt:41:1
 returns-2 : tie.Need-returns-2 Inv-loop μ-loop
-returns-2 c = search (seeking-some, needs)
+returns-2 c = search (choice-chosen, needs)
 
 pub first-of-greatest-spec : {M : Type 1} → statement M
 first-of-greatest-spec =

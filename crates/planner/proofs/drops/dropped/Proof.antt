@@ -10,7 +10,7 @@ use Rattle.planner.proofs.drops.dropped.Lts as lts
 use Rattle.planner.proofs.numbers.all_numbers.Reads as all-numbers-reads
 use Rattle.planner.proofs.numbers.steps_at.Reads as steps-at-reads
 use Rattle.planner.proofs.numbers.without.Reads as without-reads
-use Rattle.estimates.proofs.totals.total_of.Reads as total-of-reads
+use Rattle.estimates.proofs.estimator.estimated.Reads as estimated-reads
 
 abbrev Inv-loop : tie.InvT-loop
 Inv-loop costs envelope local program n given order steps kept₀ total₀ i₀ kept total i = Dropping costs envelope program order n i kept total
@@ -39,8 +39,8 @@ steps-at-requires : tie.Need-steps-at-requires Inv-loop μ-loop
 steps-at-requires c κs = search (kept-few, fewer-few, needs)
 
 -- src/drops.rt:102:13
-total-of-requires : tie.Need-total-of-requires Inv-loop μ-loop
-total-of-requires c κs = search (shorter-acceptable, needs)
+estimated-requires : tie.Need-estimated-requires Inv-loop μ-loop
+estimated-requires c κs = search (shorter-acceptable, needs)
 
 -- src/drops.rt:107:9
 add-i : tie.Need-add-i Inv-loop μ-loop
@@ -52,7 +52,7 @@ loop-less c = omega arith
 
 -- src/drops.rt:91:5
 loop-again : tie.Need-loop-again Inv-loop μ-loop
-loop-again c = ⊎-elim (λ w. dropping-yes (c .before .before .before .before .before .before .before .before .before .before .args .costs) (c .before .before .before .before .before .before .before .before .before .before .args .envelope) (c .before .before .before .before .before .before .before .before .before .before .args .program) (c .before .before .before .before .before .before .before .before .before .before .pre .1) (c .before .before .before .before .before .before .before .before .before .before .args .t5) (c .before .before .before .before .before .before .before .before .before .before .args .n) _ _ _ (c .before .before .before .before .before .before .before .loop .inv) _ (c .before .before .before .before .without .ensures) _ (c .before .before .steps-at .ensures) _ (c .before .total-of .ensures) (c .before .before .before .before .before .before .loop-test .taken) _ _ (w .0 .taken) (w .1) (w .2)) (λ w. dropping-no (c .before .before .before .before .before .before .before .before .before .before .args .costs) (c .before .before .before .before .before .before .before .before .before .before .args .envelope) (c .before .before .before .before .before .before .before .before .before .before .args .program) (c .before .before .before .before .before .before .before .before .before .before .pre .1) (c .before .before .before .before .before .before .before .before .before .before .args .t5) (c .before .before .before .before .before .before .before .before .before .before .args .n) _ _ _ (c .before .before .before .before .before .before .before .loop .inv) _ (c .before .before .before .before .without .ensures) _ (c .before .before .steps-at .ensures) _ (c .before .total-of .ensures) (c .before .before .before .before .before .before .loop-test .taken) _ _ (w .0 .left) (w .1) (w .2)) (c .if1 .came)
+loop-again c = ⊎-elim (λ w. dropping-yes (c .before .before .before .before .before .before .before .before .before .before .before .args .costs) (c .before .before .before .before .before .before .before .before .before .before .before .args .envelope) (c .before .before .before .before .before .before .before .before .before .before .before .args .program) (c .before .before .before .before .before .before .before .before .before .before .before .pre .1) (c .before .before .before .before .before .before .before .before .before .before .before .args .t5) (c .before .before .before .before .before .before .before .before .before .before .before .args .n) _ _ _ (c .before .before .before .before .before .before .before .before .loop .inv) _ (c .before .before .before .before .before .without .ensures) _ (c .before .before .before .steps-at .ensures) _ (c .before .before .estimated .ensures) (c .before .before .before .before .before .before .before .loop-test .taken) _ _ (w .0 .taken) (w .1) (w .2)) (λ w. dropping-no (c .before .before .before .before .before .before .before .before .before .before .before .args .costs) (c .before .before .before .before .before .before .before .before .before .before .before .args .envelope) (c .before .before .before .before .before .before .before .before .before .before .before .args .program) (c .before .before .before .before .before .before .before .before .before .before .before .pre .1) (c .before .before .before .before .before .before .before .before .before .before .before .args .t5) (c .before .before .before .before .before .before .before .before .before .before .before .args .n) _ _ _ (c .before .before .before .before .before .before .before .before .loop .inv) _ (c .before .before .before .before .before .without .ensures) _ (c .before .before .before .steps-at .ensures) _ (c .before .before .estimated .ensures) (c .before .before .before .before .before .before .before .loop-test .taken) _ _ (w .0 .left) (w .1) (w .2)) (c .if1 .came)
 
 -- src/drops.rt:110:5
 steps-at-requires-2 : tie.Need-steps-at-requires-2 Inv-loop μ-loop
@@ -73,7 +73,7 @@ dropped-spec =
     array-read-without
     without-requires
     steps-at-requires
-    total-of-requires
+    estimated-requires
     add-i
     loop-less
     loop-again

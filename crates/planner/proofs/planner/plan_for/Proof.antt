@@ -16,7 +16,7 @@ site-for-requires c κs = local-sited (c .args .costs) (c .args .envelope) (c .a
 
 -- src/planner.rt:55:9
 assembly-at-requires : tie.Need-assembly-at-requires
-assembly-at-requires c κs = let b = local-sited (c .before .args .costs) (c .before .args .envelope) (c .before .args .local) (c .before .pre) .0 in (b .prices, b .rows, b .widths)
+assembly-at-requires c κs = local-sited (c .before .args .costs) (c .before .args .envelope) (c .before .args .local) (c .before .pre) .0
 
 -- src/planner.rt:56:9
 planned-requires : tie.Need-planned-requires

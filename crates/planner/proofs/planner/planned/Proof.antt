@@ -1,24 +1,24 @@
-use Rattle.planner.proofs.PlannerCodeLaws.{reduced-acceptable, planned-below, planned-home}
+use Rattle.planner.proofs.PlannerCodeLaws.{after-drops-acceptable, planned-below, planned-home}
 use borrow.Author.Needs.{needs}
 use Rattle.planner.proofs.planner.planned.Statement.{statement}
 use Rattle.planner.proofs.planner.planned.Tie as tie
 use Rattle.planner.proofs.planner.planned.Reads as reads
 use Rattle.planner.proofs.planner.planned.Lts as lts
 use Rattle.estimates.proofs.lines.no_step.Reads as no-step-reads
-use Rattle.planner.proofs.planner.reduced.Reads as reduced-reads
-use Rattle.estimates.proofs.totals.total_of.Reads as total-of-reads
+use Rattle.planner.proofs.planner.after_drops.Reads as after-drops-reads
+use Rattle.estimates.proofs.estimator.estimated.Reads as estimated-reads
 
 -- src/planner.rt:38:9
-reduced-requires : tie.Need-reduced-requires
-reduced-requires c κs = search needs
+after-drops-requires : tie.Need-after-drops-requires
+after-drops-requires c κs = search needs
 
 -- src/planner.rt:39:9
-total-of-requires : tie.Need-total-of-requires
-total-of-requires c κs = let s = c .before in (s .pre .0, reduced-acceptable (s .args .costs) (s .args .envelope) (s .args .local) (s .pre .0) _ _ (s .pre .1) (s .pre .2) _ (c .reduced .ensures))
+estimated-requires : tie.Need-estimated-requires
+estimated-requires c κs = let s = c .before in (s .pre .0, after-drops-acceptable (s .args .costs) (s .args .envelope) (s .args .local) (s .pre .0) _ _ (s .pre .1) (s .pre .2) _ (c .after-drops .ensures))
 
 -- src/planner.rt:41:9
 returns : tie.Need-returns
-returns c = let s = c .before .before .before in planned-below (s .args .costs) (s .args .envelope) (s .args .local) (s .pre .0) _ _ (s .pre .1) (s .pre .2) _ (c .before .before .reduced .ensures) _ (c .before .total-of .ensures) (c .if1 .taken)
+returns c = let s = c .before .before .before .before in planned-below (s .args .costs) (s .args .envelope) (s .args .local) (s .pre .0) _ _ (s .pre .1) (s .pre .2) _ (c .before .before .before .after-drops .ensures) _ (c .before .before .estimated .ensures) (c .if1 .taken)
 
 -- src/planner.rt:46:17
 no-step-requires : tie.Need-no-step-requires
@@ -26,8 +26,8 @@ no-step-requires c κs = search needs
 
 -- src/planner.rt:34:1
 returns-2 : tie.Need-returns-2
-returns-2 c = let s = c .before .before .before .before in planned-home (s .args .costs) (s .args .envelope) (s .args .local) (s .pre .0) _ _ (s .pre .1) (s .pre .2) _ (c .before .before .before .reduced .ensures) _ (c .before .before .total-of .ensures) (c .before .if1 .left) _ (c .no-step .ensures)
+returns-2 c = let s = c .before .before .before .before .before in planned-home (s .args .costs) (s .args .envelope) (s .args .local) (s .pre .0) _ _ (s .pre .1) (s .pre .2) _ (c .before .before .before .before .after-drops .ensures) _ (c .before .before .before .estimated .ensures) (c .before .if1 .left) _ (c .no-step .ensures)
 
 pub planned-spec : {M : Type 1} → statement M
 planned-spec =
-    tie.close (tie.spec reduced-requires total-of-requires returns no-step-requires returns-2)
+    tie.close (tie.spec after-drops-requires estimated-requires returns no-step-requires returns-2)

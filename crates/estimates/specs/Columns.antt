@@ -1,0 +1,20 @@
+-- "Width of a relation: the sum of its kept columns' widths." And what the envelope says of a column.
+use Prim.Native.Nat.{ℕ}
+use mathlib.Core.List.{map}
+use lib.ListN.{getD}
+use Rattle.ground.specs.Lists.{sum}
+use Rattle.entries.specs.Relations.{noColumn, pastRelation}
+use Rattle.contents.specs.Parts.{relationsOf, sizesOf}
+use Rattle.contents.specs.Kept.{keptColumns}
+use Rattle.entries.specs.declared.places.Place.{Place}
+use Rattle.entries.specs.declared.relations.Column.{Column}
+use Rattle.contents.specs.declared.envelope.Envelope.{Envelope}
+
+unfoldable pub columnOf : Envelope → Place → Column
+columnOf e a = getD (getD (relationsOf e) (a .relation) pastRelation .columns) (a .column) noColumn
+
+unfoldable pub domainSize : Envelope → Place → ℕ
+domainSize e a = getD (sizesOf e) (columnOf e a .domain) 0
+
+unfoldable pub widthOf : Envelope → ℕ → ℕ
+widthOf e r = sum (map (λ c. columnOf e (record { relation = r; column = c }) .width) (keptColumns e r))
