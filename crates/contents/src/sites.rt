@@ -28,14 +28,15 @@ pub fn site_of(envelope: Envelope, relation: u8) -> u8
     }
 }
 
-// Whether a relation exists and is at a site.
-pub fn is_at(envelope: Envelope, site: u8, relation: u8) -> bool
+// Whether a relation exists and is at a site, which is any word.
+pub fn is_at(envelope: Envelope, site: u32, relation: u8) -> bool
     ensures { λ r. ⌜ r ≡ isAt envelope site relation ⌝ }
 {
     if ground::used::in_use(8, envelope.relation_count) <= relation as usize {
         return false;
     }
-    site_of(envelope, relation) == site
+    let own = site_of(envelope, relation);
+    own as u32 == site
 }
 
 // Whether a site holds a relation.
@@ -45,7 +46,7 @@ pub fn holds_relation(envelope: Envelope, site: u8) -> bool
     let end = ground::used::in_use(8, envelope.relation_count);
     let mut i: u8 = 0;
     while (i as usize) < end {
-        if is_at(envelope, site, i) {
+        if is_at(envelope, site as u32, i) {
             return true;
         }
         i += 1;

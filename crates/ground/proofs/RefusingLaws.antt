@@ -1,17 +1,19 @@
 -- Laws of the refusals of a call: the first test that fails gives the number and the position, and where none fails it is
--- what comes after.
+-- what comes after. And what tests that were judged alone say of a call that begins with them.
 use mathlib.Core.Path.{_≡_, refl, sym, ap, _∙_}
 use mathlib.Core.Bool.{Bool, true, false, _||_, false≢true}
-use mathlib.Core.List.{List, [], _∷_, _++_, map, List·Memᴰ, List·Memᴰ·head, Memᴰ·append-right}
+use mathlib.Core.List.{List, [], _∷_, _++_, map, List·Memᴰ, List·Memᴰ·head, List·Memᴰ·tail, Memᴰ·append-right}
 use mathlib.Core.Logic.{_⊎_, inl, inr, _↔_}
 use Prim.Native.Nat.{ℕ}
 use Rattle.ground.specs.Tests.{pick}
-use Rattle.ground.specs.Lists.{any}
-use Rattle.ground.specs.Outcome.{Outcome, next}
+use Rattle.ground.specs.Lists.{any, Every}
+use Rattle.ground.specs.Outcome.{Outcome, next, verdictOf}
 use Rattle.ground.specs.Outcome.Outcome.{good, bad}
-use Rattle.ground.specs.Refusing.{Test, judged}
+use Rattle.ground.specs.Refusing.{Test, judged, judgement}
+use Rattle.ground.specs.declared.Verdict.{Verdict}
+use Rattle.ground.specs.declared.Verdict.the-variants.{Taken, Refused}
 use Rattle.ground.proofs.ListLaws.{map-mem}
-use Rattle.ground.proofs.OutcomeLaws.{good-bad}
+use Rattle.ground.proofs.OutcomeLaws.{never, good-bad}
 
 -- some test fails
 abbrev pub someFail : List Test → Bool
@@ -109,3 +111,64 @@ module _ {A : Type 0} where
           → next (pick b (bad (t .number) (t .position)) (judged ts o)) k ≡ pick b (bad (t .number) (t .position)) (judged ts (next o k))
       go true e = refl
       go false e = e
+
+-- ---- tests judged alone
+
+refused-by : {A : Type 0} (o : Outcome A) (ts : List Test) (m q : ℕ) → Refused m q ≡ judgement ts → judged ts o ≡ bad m q
+unfolding judgement verdictOf
+refused-by o [] m q h = let z : _≡_ {A = ℕ} 0 1 = cc in absurd (never z)
+refused-by {A} o (t ∷ ts) m q h = go (t .fails) h (refused-by o ts m q)
+  where
+    go : (b : Bool) → Refused m q ≡ verdictOf (pick b (bad (t .number) (t .position)) (judged ts (good (tt {0}) 0)))
+        → (Refused m q ≡ verdictOf (judged ts (good (tt {0}) 0)) → judged ts o ≡ bad m q)
+        → pick b (bad (t .number) (t .position)) (judged ts o) ≡ bad m q
+    go true h ih = cc
+    go false h ih = ih h
+
+taken-by : (ts : List Test) → Taken ≡ judgement ts → someFail ts ≡ false
+unfolding judgement verdictOf
+taken-by [] h = refl
+taken-by (t ∷ ts) h = go (t .fails) h (taken-by ts)
+  where
+    go : (b : Bool) → Taken ≡ verdictOf (pick b (bad (t .number) (t .position)) (judged ts (good (tt {0}) 0)))
+        → (Taken ≡ verdictOf (judged ts (good (tt {0}) 0)) → someFail ts ≡ false) → (b || someFail ts) ≡ false
+    go true h ih = let z : _≡_ {A = ℕ} 0 1 = cc in absurd (never z)
+    go false h ih = ih h
+
+module _ (ts : List Test) (v : Verdict) (g : v ≡ judgement ts) where
+  pub judge-refused : {A : Type 0} (o : Outcome A) (m q : ℕ) → v ≡ Refused m q → judged ts o ≡ bad m q
+  judge-refused o m q h = refused-by o ts m q (sym h ∙ g)
+
+  pub judge-passed : v ≡ Taken → someFail ts ≡ false
+  judge-passed h = taken-by ts (sym h ∙ g)
+
+  pub judge-taken : {A : Type 0} (o : Outcome A) → v ≡ Taken → judged ts o ≡ o
+  judge-taken o h = judged-none ts o (judge-passed h)
+
+-- where the effect is good and every test has position 0, a refusal has the number of a test, and position 0
+pub refusal-listed : {A : Type 0} (ts : List Test) (v : A) (p n q : ℕ) → Every (λ (t : Test). t .position ≡ 0) ts
+    → judged ts (good v p) ≡ bad n q → List·Memᴰ n (map (λ (t : Test). t .number) ts) × (q ≡ 0)
+refusal-listed [] v p n q z h = absurd (good-bad v p n q h)
+refusal-listed {A} (t ∷ ts) v p n q z h = go (t .fails) h (refusal-listed ts v p n q (z .1))
+  where
+    go : (b : Bool) → pick b (bad (t .number) (t .position)) (judged ts (good v p)) ≡ bad n q
+        → (judged ts (good v p) ≡ bad n q → List·Memᴰ n (map (λ (t : Test). t .number) ts) × (q ≡ 0))
+        → List·Memᴰ n (t .number ∷ map (λ (t : Test). t .number) ts) × (q ≡ 0)
+    go true h ih =
+        let same : n ≡ t .number = cc in
+        let place : q ≡ t .position = cc in
+        (List·Memᴰ·head same, place ∙ z .0)
+    go false h ih = let (m, e) = ih h in (List·Memᴰ·tail m, e)
+
+-- one test after the other
+pub judge-fail : (t : Test) (ts : List Test) → t .fails ≡ true → Refused (t .number) (t .position) ≡ judgement (t ∷ ts)
+unfolding judgement verdictOf
+judge-fail t ts h = rw h
+
+pub judge-pass : (t : Test) (ts : List Test) → t .fails ≡ false → judgement (t ∷ ts) ≡ judgement ts
+unfolding judgement
+judge-pass t ts h = rw h
+
+pub judge-none : Taken ≡ judgement []
+unfolding judgement verdictOf
+judge-none = refl

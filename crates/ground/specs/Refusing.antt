@@ -1,10 +1,12 @@
--- The refusals of a call: tests in order, each with its number and what goes with it, and then the effect.
+-- The refusals of a call: tests in order, each with its number and what goes with it, and then the effect. And what tests
+-- that several calls begin with say alone.
 use mathlib.Core.Bool.{Bool}
 use mathlib.Core.List.{List, [], _∷_}
 use Prim.Native.Nat.{ℕ}
 use Rattle.ground.specs.Tests.{pick}
-use Rattle.ground.specs.Outcome.{Outcome}
-use Rattle.ground.specs.Outcome.Outcome.{bad}
+use Rattle.ground.specs.Outcome.{Outcome, verdictOf}
+use Rattle.ground.specs.Outcome.Outcome.{good, bad}
+use Rattle.ground.specs.declared.Verdict.{Verdict}
 
 pub record Test : Type 0 where
   pub fails : Bool
@@ -18,3 +20,7 @@ test fails number position = record { fails = fails; number = number; position =
 abbrev pub judged : {A : Type 0} → List Test → Outcome A → Outcome A
 judged [] o = o
 judged (t ∷ ts) o = pick (t .fails) (bad (t .number) (t .position)) (judged ts o)
+
+-- such tests alone
+unfoldable pub judgement : List Test → Verdict
+judgement ts = verdictOf (judged ts (good (tt {0}) 0))

@@ -1,25 +1,26 @@
 -- The laws of both papers checked: what an answer says of the outcome, what good papers are, and each return.
 use mathlib.Core.Path.{_≡_, refl, sym, ap, _∙_}
 use Prim.Native.Nat.{ℕ}
+use lib.ListN.{length}
 use Rattle.ground.specs.Outcome.{Outcome, next, nextOf, verdictOf, valueOf}
 use Rattle.ground.specs.Outcome.Outcome.{good, bad}
 use Rattle.ground.specs.declared.Verdict.the-variants.{Taken, Refused}
 use Rattle.ground.proofs.OutcomeLaws.{taken-is, refused-is, next-good}
 use Rattle.contents.specs.Parts.{noEnvelope}
-use Rattle.envelopes.specs.Envelope.{checkEnvelope, shownEnvelope}
+use Rattle.envelopes.specs.Envelope.{checkEnvelope, shownEnvelope, envelopeBytes}
 use Rattle.envelopes.specs.Rules.{Within, tidy}
 use Rattle.contents.specs.declared.envelope.Envelope.{Envelope}
 use Rattle.envelopes.specs.declared.reading.EnvelopeRead.{EnvelopeRead}
 use Rattle.envelopes.proofs.ReadingLaws.{read-taken, read-refused}
-use Rattle.envelopes.proofs.ExactEnvelope.{check-sound}
+use Rattle.envelopes.proofs.ExactEnvelope.{check-sound, check-complete}
 use Rattle.papers.specs.Programs.{noProgram, programAgainst, programBytes, readProgram, checkProgram, shownProgram, Acceptable, tidyProgram}
-use Rattle.papers.specs.Checks.{noPapers, papersOf, shownPapers}
+use Rattle.papers.specs.Checks.{noPapers, papersOf, shownPapers, GoodPapers}
 use Rattle.papers.specs.declared.programs.Program.{Program}
 use Rattle.papers.specs.declared.programs.ProgramRead.{ProgramRead}
 use Rattle.papers.specs.declared.checks.Papers.{Papers}
 use Rattle.papers.specs.declared.checks.PapersRead.{PapersRead}
 use Rattle.papers.proofs.ProgramCodeLaws.{program-taken, program-refused}
-use Rattle.papers.proofs.ExactPrograms.{program-bytes, program-exact}
+use Rattle.papers.proofs.ExactPrograms.{program-bytes, program-exact, program-complete}
 
 pub papers-taken : (o : Outcome Papers) (x : PapersRead) → x ≡ shownPapers o → x .verdict ≡ Taken → o ≡ good (x .papers) (nextOf o)
 papers-taken o x e g = taken-is noPapers o (sym (ap (λ (c : PapersRead). c .verdict) e) ∙ g) ∙ simp e
@@ -31,13 +32,6 @@ pub papers-none : (m q : ℕ) (e : Envelope) (p : Program) → e ≡ noEnvelope 
     → record { verdict = Refused m q; papers = record { envelope = e; program = p } } ≡ shownPapers (bad m q)
 unfolding verdictOf valueOf
 papers-none m q e p f g = rw (f, g) refl
-
--- good papers are within the sizes and rules, each as it reads back
-pub record GoodPapers (q : Papers) : Type 0 where
-  pub within : Within (q .envelope)
-  pub tidied : tidy (q .envelope) ≡ q .envelope
-  pub acceptable : Acceptable (q .envelope) (q .program)
-  pub trimmed : tidyProgram (q .program) ≡ q .program
 
 pub papers-sound : (e : Envelope) (p : Program) (q : Papers) (u : ℕ) → papersOf e p ≡ good q u → GoodPapers q
 unfolding papersOf
@@ -51,6 +45,18 @@ papers-sound e p q u h =
     record { within = sound .0; tidied = sound .1; acceptable = exact .0; trimmed = exact .1 }
     in
     rw same at found
+
+-- and good papers are taken, as they are
+pub papers-complete : (q : Papers) → GoodPapers q → papersOf (q .envelope) (q .program) ≡ good q (length (programBytes (q .program)))
+unfolding papersOf
+papers-complete q g =
+    let envelope : checkEnvelope (q .envelope) ≡ good (q .envelope) (length (envelopeBytes (q .envelope))) =
+    check-complete (q .envelope) (g .within) ∙ ap (λ (f : Envelope). good f (length (envelopeBytes (q .envelope)))) (g .tidied) in
+    let program
+    : programAgainst (q .envelope) (programBytes (q .program)) ≡ good (q .program) (length (programBytes (q .program))) =
+    program-complete (q .envelope) (g .within) (q .program) (g .acceptable)
+    ∙ ap (λ (x : Program). good x (length (programBytes (q .program)))) (g .trimmed) in
+    rw (envelope, program)
 
 -- ---- each return
 

@@ -18,7 +18,8 @@ pub struct PapersRead {
     pub papers: Papers,
 }
 
-fn refused_papers(number: u8, position: usize) -> PapersRead
+// A refusal, with empty papers beside it.
+pub fn refused_papers(number: u8, position: usize) -> PapersRead
     ensures { λ r. ⌜ r ≡ shownPapers (bad number position) ⌝ }
 {
     let envelope = contents::envelope::no_envelope();

@@ -56,7 +56,8 @@ fn no_step() -> Step
     }
 }
 
-pub(crate) fn no_program() -> Program
+// The empty program, which stands beside a refusal.
+pub fn no_program() -> Program
     ensures { λ r. ⌜ r ≡ noProgram ⌝ }
 {
     let steps = [no_step(); 156];

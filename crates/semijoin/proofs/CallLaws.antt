@@ -13,6 +13,7 @@ use Rattle.ground.specs.Outcome.{Outcome, next}
 use Rattle.ground.specs.Outcome.Outcome.{good, bad}
 use Rattle.ground.specs.Refusing.{Test, test, judged}
 use Rattle.ground.proofs.OutcomeLaws.{next-bad}
+use Rattle.ground.proofs.RefusingLaws.{refusal-listed}
 use Rattle.ground.proofs.TestLaws.{and-left, and-right, and-both}
 use Rattle.fields.specs.Refusals.{wrongShape, tooShort, notOurs, notSound}
 use Rattle.envelopes.specs.Envelope.{checkEnvelope}
@@ -37,7 +38,6 @@ use Rattle.semijoin.specs.Promise.{wordOf, keptAt}
 use Rattle.tables.specs.declared.offsets.Extent.{Extent}
 use Rattle.semijoin.specs.declared.marks.Reduced.the-variants as r
 use Rattle.tables.specs.declared.values.Gathered.the-variants as g
-use Rattle.tables.proofs.JudgedLaws.{refusal-listed}
 use Rattle.tables.proofs.RisingLaws.{rising-exact}
 use Rattle.tables.proofs.CallLaws.{first-shape, then-marks, then-rest}
 use Rattle.semijoin.proofs.PromiseLaws.{promise}

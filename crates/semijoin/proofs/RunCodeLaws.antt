@@ -12,25 +12,27 @@ use Rattle.ground.specs.Lists.{Every, below}
 use Rattle.ground.specs.Rising.{Rises}
 use Rattle.ground.specs.Outcome.{verdictOf, nextOf}
 use Rattle.ground.specs.Outcome.Outcome.{good}
+use Rattle.ground.specs.Refusing.{judgement}
 use Rattle.ground.specs.declared.Verdict.{Verdict}
 use Rattle.ground.specs.declared.Verdict.the-variants.{Taken, Refused}
 use Rattle.ground.proofs.ListLaws.{each-alike}
 use Rattle.ground.proofs.OutcomeLaws.{never}
 use Rattle.ground.proofs.EveryLaws.{every-getD}
 use Rattle.ground.proofs.NumbersLaws.{below-from}
+use Rattle.ground.proofs.RefusingLaws.{judge-refused, judge-taken}
 use Rattle.fields.proofs.PutLaws.{fresh-bytes}
 use Rattle.contents.specs.Parts.{relationCount}
 use Rattle.envelopes.specs.Rules.{Within}
 use Rattle.contents.specs.declared.envelope.Envelope.{Envelope}
 use Rattle.paths.specs.Steps.{isPlace, legal, LegalStep}
 use Rattle.papers.specs.Programs.{noStep, stepsOf}
-use Rattle.papers.specs.Checks.{papersOf, shownPapers}
+use Rattle.papers.specs.Checks.{papersOf, shownPapers, GoodPapers}
 use Rattle.paths.specs.declared.steps.Step.{Step}
 use Rattle.papers.specs.declared.programs.Program.{Program}
 use Rattle.papers.specs.declared.checks.PapersRead.{PapersRead}
 use Rattle.paths.proofs.StepLaws.{legal-step}
-use Rattle.papers.proofs.CheckLaws.{papers-taken, papers-refused, papers-sound, GoodPapers}
-use Rattle.tables.specs.Shape.{shaped, marksTests, judgement}
+use Rattle.papers.proofs.CheckLaws.{papers-taken, papers-refused, papers-sound}
+use Rattle.tables.specs.Shape.{shaped, marksTests}
 use Rattle.semijoin.specs.Local.{openedAt, opened, openedIn}
 use Rattle.semijoin.specs.Marks.{reducedBy, marksAfter}
 use Rattle.tables.specs.Offsets.{rowCount}
@@ -38,7 +40,6 @@ use Rattle.tables.specs.Values.{valuesOf, risingValues, valuesOutcome, gathered
 use Rattle.tables.specs.declared.values.Gathered.{Gathered}
 use Rattle.tables.specs.declared.values.Gathered.the-variants as g
 use Rattle.semijoin.specs.Run.{stepped, steppedAll, runMarks, runChecked, runOutcome}
-use Rattle.tables.proofs.JudgedLaws.{judge-refused, judge-taken}
 use Rattle.tables.proofs.ShapeLaws.{shaped-shape}
 use Rattle.tables.proofs.CallLaws.{values-length, values-buffer}
 use Rattle.semijoin.proofs.PromiseLaws.{promise}

@@ -10,13 +10,13 @@ use Rattle.ground.specs.Tests.{pick}
 use Rattle.ground.specs.Lists.{filter, below}
 use Rattle.ground.specs.Outcome.{Outcome, next, nextOf}
 use Rattle.ground.specs.Outcome.Outcome.{good, bad}
-use Rattle.ground.specs.Refusing.{test, judged}
+use Rattle.ground.specs.Refusing.{test, judged, judgement}
 use Rattle.ground.specs.Searching.{someFrom}
 use Rattle.ground.specs.declared.Verdict.{Verdict}
 use Rattle.ground.specs.declared.Verdict.the-variants.{Taken, Refused}
 use Rattle.ground.proofs.SearchingLaws.{Looking, some-more, some-found, some-none, any-numbers}
 use Rattle.ground.proofs.OutcomeLaws.{next-good}
-use Rattle.ground.proofs.RefusingLaws.{judged-good}
+use Rattle.ground.proofs.RefusingLaws.{judged-good, judge-refused, judge-taken}
 use Rattle.ground.proofs.EveryLaws.{every-getD}
 use Rattle.ground.proofs.TestLaws.{and-left}
 use Rattle.fields.specs.Refusals.{beyondLimit}
@@ -26,14 +26,14 @@ use Rattle.contents.specs.declared.envelope.Envelope.{Envelope}
 use Rattle.paths.specs.Steps.{legal, LegalStep}
 use Rattle.papers.specs.Programs.{noStep, stepsOf}
 use Rattle.paths.specs.declared.steps.Step.{Step}
-use Rattle.papers.specs.Checks.{papersOf, shownPapers}
+use Rattle.papers.specs.Checks.{papersOf, shownPapers, GoodPapers}
 use Rattle.papers.specs.declared.programs.Program.{Program}
 use Rattle.papers.specs.declared.checks.Papers.{Papers}
 use Rattle.papers.specs.declared.checks.PapersRead.{PapersRead}
-use Rattle.papers.proofs.CheckLaws.{GoodPapers, papers-taken, papers-refused, papers-sound}
+use Rattle.papers.proofs.CheckLaws.{papers-taken, papers-refused, papers-sound}
 use Rattle.paths.proofs.StepLaws.{legal-step}
-use Rattle.tables.specs.Shape.{marksTests, judgement}
-use Rattle.tables.proofs.JudgedLaws.{judge-refused, judge-taken, marks-pass}
+use Rattle.tables.specs.Shape.{marksTests}
+use Rattle.tables.proofs.JudgedLaws.{marks-pass}
 use Rattle.station.specs.Reducing.{stepCount, stepOf, reduces, reducing, placeOf}
 use Rattle.station.specs.Ends.{overAt, overApplied, soundEnd, usable, Usable}
 use Rattle.station.specs.declared.ends.End.{End}
@@ -122,7 +122,7 @@ sound-good-papers x q u h =
     let same : f ≡ q = cc in
     rw same at (papers-sound (x .envelope) (x .program) f w read)
 
-usable-is : (x : End) (words : List ℕ) (n : ℕ) (q : Papers) (u : ℕ) → usable x words n ≡ good q u → Usable q words n
+pub usable-is : (x : End) (words : List ℕ) (n : ℕ) (q : Papers) (u : ℕ) → usable x words n ≡ good q u → Usable q words n
 unfolding usable
 usable-is x words n q u h =
     let (f, w, read, rest) = next-good (soundEnd x) _ q u h in

@@ -4,7 +4,6 @@ pub mod ReducingLaws
 pub mod MessageLaws
 pub mod EndLaws
 pub mod MessageCodeLaws
-pub mod SemijoinCalls
 pub mod CallLaws
 pub mod OpeningCodeLaws
 pub mod MakingCodeLaws

@@ -1,8 +1,7 @@
 -- What an end makes is what an end takes: a value message that is made is sound, a row message has the rows that were sent.
--- And an empty value message removes every row.
 use mathlib.Core.Path.{_≡_, refl, ap, sym, _∙_}
-use mathlib.Core.Bool.{Bool, true, false, _&&_}
-use mathlib.Core.List.{List, [], map}
+use mathlib.Core.Bool.{true}
+use mathlib.Core.List.{List, map}
 use Prim.Native.Nat.{ℕ, _≤_, _<_}
 use native.Mathlib.Omega.{arith}
 use lib.ListN.{length, length-map}
@@ -11,13 +10,11 @@ use Rattle.ground.proofs.EveryLaws.{every-of, every-mapped}
 use Rattle.ground.proofs.ListLaws.{filter-length}
 use Rattle.ground.proofs.NumbersLaws.{below-length}
 use Rattle.entries.specs.declared.places.Place.{Place}
-use Rattle.contents.specs.Parts.{relationCount}
 use Rattle.contents.specs.Kept.{keptColumns}
 use Rattle.contents.specs.declared.envelope.Envelope.{Envelope}
 use Rattle.paths.specs.Meaning.{Row, wordIn}
-use Rattle.tables.specs.Offsets.{countIn, rowCount}
+use Rattle.tables.specs.Offsets.{countIn}
 use Rattle.tables.specs.Shape.{shaped}
-use Rattle.semijoin.specs.Marks.{reducedBy}
 use Rattle.tables.specs.Values.{risingValues}
 use Rattle.semijoin.specs.Promise.{keptAt, rowOf}
 use Rattle.tables.proofs.ShapeLaws.{shaped-shape}
@@ -35,10 +32,10 @@ module _ (e : Envelope) (words marks : List ℕ) (shape : shaped e words ≡ tru
       (omega (arith, promise e .no-more words marks b, shaped-shape e words shape .few (b .relation)))
       (rising-exact (risingValues e words marks b) .1 (promise e .rises words marks b))
 
-  module _ (room : rowCount e words ≤ length marks) (r : ℕ) (h : r < relationCount e) (run : ℕ) where
+  module _ (r run : ℕ) where
     wide : Wide (length (keptColumns e r)) (sentRows e words marks r)
     wide =
-        rw (sent-by e words marks r room h)
+        rw (sent-by e words marks r)
         (every-mapped (λ (row : Row). length row ≡ length (keptColumns e r)) (rowWords e words marks r) (chosen e words marks r)
         (every-of _ (chosen e words marks r) (λ i _. length-map (keptColumns e r) (wordIn (rowOf e words r i)))))
 
@@ -46,7 +43,7 @@ module _ (e : Envelope) (words marks : List ℕ) (shape : shaped e words ≡ tru
     few =
         omega (
           arith,
-          ap (λ (l : List Row). length l) (sent-by e words marks r room h) ∙ length-map (chosen e words marks r) (rowWords e words marks r),
+          ap (λ (l : List Row). length l) (sent-by e words marks r) ∙ length-map (chosen e words marks r) (rowWords e words marks r),
           filter-length (keptAt e words marks r) (below (countIn e words r)),
           below-length (countIn e words r),
           shaped-shape e words shape .few r,
@@ -57,10 +54,3 @@ module _ (e : Envelope) (words marks : List ℕ) (shape : shaped e words ≡ tru
 
     pub rows-understood : rowsOf (length (keptColumns e r)) (rowMessage run r (sentRows e words marks r)) ≡ sentRows e words marks r
     rows-understood = row-rows run r (sentRows e words marks r) (length (keptColumns e r)) wide
-
-and-none : (a : Bool) → (a && false) ≡ false
-and-none true = refl
-and-none false = refl
-
-pub none-kept : (e : Envelope) (words marks : List ℕ) (a : Place) (i : ℕ) → keptAt e words (reducedBy e words [] a marks) (a .relation) i ≡ false
-none-kept e words marks a i = promise e .exactly words [] marks a i ∙ and-none (keptAt e words marks (a .relation) i)

@@ -11,25 +11,30 @@ use lib.Dec.{ltb}
 use borrow.Author.Tests.{ltb-true, lt-ltb, le-ltb, not-false}
 use Rattle.ground.specs.Outcome.{Outcome, next}
 use Rattle.ground.specs.Outcome.Outcome.{good, bad}
-use Rattle.ground.specs.Refusing.{Test, test, judged}
+use Rattle.ground.specs.Refusing.{Test, test, judged, judgement}
 use Rattle.ground.specs.declared.Verdict.{Verdict}
 use Rattle.ground.specs.declared.Verdict.the-variants as v
+use Rattle.ground.proofs.CountLaws.{split}
+use Rattle.ground.proofs.OutcomeLaws.{never}
 use Rattle.ground.proofs.TestLaws.{and-left}
+use Rattle.ground.proofs.RefusingLaws.{judge-refused, judge-passed, judge-taken, judge-fail, judge-pass, judge-none}
 use Rattle.fields.specs.Refusals.{tooShort, waiting, notOurs}
 use Rattle.contents.specs.Sites.{isAt}
 use Rattle.contents.specs.declared.envelope.Envelope.{Envelope}
+use Rattle.entries.specs.declared.places.Place.{Place}
 use Rattle.paths.specs.Steps.{isPlace}
 use Rattle.papers.specs.Checks.{shownPapers}
 use Rattle.paths.specs.declared.steps.Step.{Step}
 use Rattle.papers.specs.declared.programs.Program.{Program}
 use Rattle.papers.specs.declared.checks.Papers.{Papers}
 use Rattle.papers.specs.declared.checks.PapersRead.{PapersRead}
-use Rattle.tables.specs.Shape.{judgement}
+use Rattle.tables.specs.Offsets.{rowCount}
+use Rattle.tables.specs.Shape.{shaped}
 use Rattle.tables.specs.Values.{risingValues, valuesOutcome, gatheredOf, gatheredIn}
 use Rattle.tables.specs.declared.values.Gathered.{Gathered}
 use Rattle.tables.specs.declared.values.Gathered.the-variants as g
 use Rattle.tables.proofs.ShapeLaws.{shaped-shape}
-use Rattle.tables.proofs.JudgedLaws.{judge-refused, judge-passed, judge-taken}
+use Rattle.tables.proofs.CallLaws.{values-narrow, values-length, values-buffer, values-refused, values-stay}
 use Rattle.semijoin.proofs.PromiseLaws.{promise}
 use Rattle.station.specs.Reducing.{stepCount, stepOf, isMissing, firstMissing, missingOf}
 use Rattle.station.specs.Calls.{leaves}
@@ -43,7 +48,6 @@ use Rattle.station.specs.declared.making.Made.{Made}
 use Rattle.station.specs.declared.making.Made.the-variants.{Length, Refused}
 use Rattle.station.proofs.ReducingLaws.{missing-first, missing-not}
 use Rattle.station.proofs.EndLaws.{step-legal, call-refused, call-with}
-use Rattle.station.proofs.SemijoinCalls.{judge-fail, judge-pass, judge-none, values-short, values-fit}
 
 -- ---- an outcome as the answer and the buffer afterwards
 
@@ -126,6 +130,38 @@ front-last l a b c vs =
     ap (λ (m : List ℕ). set (set m 1 b) 2 c) (set-sets l 0 3 a vs (omega arith))
     ∙ ap (λ (m : List ℕ). set m 2 c) (set-sets (set l 0 a) 1 3 b vs (omega arith))
     ∙ set-sets (set (set l 0 a) 1 b) 2 3 c vs (omega arith)
+
+-- ---- what putting a column's values leaves where tables, marks and column are good: 11, or the values
+
+module _ (e : Envelope) (words : List ℕ) (shape : shaped e words ≡ true) (marks : List ℕ) (room : rowCount e words ≤ length marks) (a : Place)
+    (here : isPlace e a ≡ true) (start : ℕ) (out : List ℕ) (y : Gathered) (after : List ℕ)
+    (f : y ≡ gatheredOf (valuesOutcome e a words marks start out)) (k : after ≡ gatheredIn start out (valuesOutcome e a words marks start out)) where
+  abbrev listed : List ℕ
+  listed = risingValues e words marks a
+
+  values-short : (m p : ℕ) → y ≡ g.Refused m p → (length out < start + length listed) × (m ≡ tooShort) × (p ≡ 0) × (after ≡ out)
+  values-short m p h =
+      split (start + length listed) (length out)
+      (λ l.
+      let same : g.Length (length listed) ≡ g.Refused m p = sym (values-length e a words marks start out shape room here l) ∙ sym f ∙ h in
+      let z : _≡_ {A = ℕ} 0 1 = cc in
+      absurd (never z))
+      (λ l.
+      let short = values-narrow e a words marks start out shape room here l in
+      let same : g.Refused m p ≡ g.Refused tooShort 0 = sym h ∙ f ∙ values-refused e a words marks start out tooShort 0 short in
+      (l, cc, cc, k ∙ values-stay e a words marks start out tooShort 0 short))
+
+  values-fit : (n : ℕ) → y ≡ g.Length n → (start + length listed ≤ length out) × (n ≡ length listed) × (after ≡ sets out start listed)
+  values-fit n h =
+      split (start + length listed) (length out)
+      (λ l.
+      let same : g.Length n ≡ g.Length (length listed) = sym h ∙ f ∙ values-length e a words marks start out shape room here l in
+      (l, cc, k ∙ values-buffer e a words marks start out shape room here l))
+      (λ l.
+      let short = values-narrow e a words marks start out shape room here l in
+      let same : g.Refused tooShort 0 ≡ g.Length n = sym (values-refused e a words marks start out tooShort 0 short) ∙ sym f ∙ h in
+      let z : _≡_ {A = ℕ} 0 1 = cc in
+      absurd (never z))
 
 -- ---- a value message
 

@@ -12,23 +12,23 @@ use Rattle.station.specs.Messages.{aboutOf, counted}
 use Rattle.station.specs.declared.messages.About.the-variants.{Step, Rows, Nothing}
 use Rattle.station.proofs.MessageLaws.{about-step, about-between, about-past}
 
-module _ (steps relations mark : ℕ) where
-  pub speaks-step : mark < steps → Step mark ≡ aboutOf steps relations mark
-  speaks-step h = sym (about-step steps relations mark h)
+module _ (steps relations second : ℕ) where
+  pub speaks-step : second < steps → Step second ≡ aboutOf steps relations second
+  speaks-step h = sym (about-step steps relations second h)
 
-  module _ (s : steps ≤ mark) where
-    pub speaks-between : mark < 256 → Nothing ≡ aboutOf steps relations mark
-    speaks-between h = sym (about-between steps relations mark s h)
+  module _ (s : steps ≤ second) where
+    pub speaks-between : second < 256 → Nothing ≡ aboutOf steps relations second
+    speaks-between h = sym (about-between steps relations second s h)
 
-    module _ (b : 256 ≤ mark) where
-      pub speaks-rows : mark - 256 < relations → Rows (mark - 256) ≡ aboutOf steps relations mark
+    module _ (b : 256 ≤ second) where
+      pub speaks-rows : second - 256 < relations → Rows (second - 256) ≡ aboutOf steps relations second
       unfolding aboutOf
       speaks-rows h =
-          let d : mark < 256 + relations = omega arith in
-          sym (rw (le-ltb mark steps s, le-leb 256 mark b, lt-ltb mark (256 + relations) d))
+          let d : second < 256 + relations = omega arith in
+          sym (rw (le-ltb second steps s, le-leb 256 second b, lt-ltb second (256 + relations) d))
 
-      pub speaks-past : relations ≤ mark - 256 → Nothing ≡ aboutOf steps relations mark
-      speaks-past h = sym (about-past steps relations mark s (omega arith))
+      pub speaks-past : relations ≤ second - 256 → Nothing ≡ aboutOf steps relations second
+      speaks-past h = sym (about-past steps relations second s (omega arith))
 
 and-false : (a b : Bool) → b ≡ false → false ≡ (a && b)
 and-false true b t = sym t

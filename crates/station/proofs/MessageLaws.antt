@@ -15,7 +15,7 @@ use Rattle.ground.proofs.OutcomeLaws.{never}
 use Rattle.ground.proofs.TestLaws.{and-left, and-right, and-both}
 use Rattle.paths.specs.Meaning.{Row, Table, rowsIn}
 use Rattle.tables.specs.Rising.{isRising}
-use Rattle.station.specs.Messages.{valueMessage, rowMessage, runOf, markOf, countOf, bodyOf, aboutOf, counted, soundValues, rowsOf}
+use Rattle.station.specs.Messages.{frontLength, valueMessage, rowMessage, runOf, secondOf, countOf, bodyOf, aboutOf, counted, soundValues, rowsOf}
 use Rattle.station.specs.declared.messages.About.{About}
 use Rattle.station.specs.declared.messages.About.the-variants.{Step, Rows, Nothing}
 
@@ -45,31 +45,31 @@ about-past steps relations n s h =
     rw (le-ltb n steps s, le-leb 256 n b, le-ltb n (256 + relations) h)
 
 -- a step that is spoken of is one of the steps, and a relation one of the relations
-module _ (steps relations mark n : ℕ) where
-  inner : (b : Bool) → pick b (Rows (mark - 256)) Nothing ≡ Step n → ⊥
+module _ (steps relations second n : ℕ) where
+  inner : (b : Bool) → pick b (Rows (second - 256)) Nothing ≡ Step n → ⊥
   inner true h = let z : _≡_ {A = ℕ} 0 1 = cc in never z
   inner false h = let z : _≡_ {A = ℕ} 0 1 = cc in never z
 
-  pub step-below : aboutOf steps relations mark ≡ Step n → n < steps
+  pub step-below : aboutOf steps relations second ≡ Step n → n < steps
   unfolding aboutOf
-  step-below h = go (ltb mark steps) refl h
+  step-below h = go (ltb second steps) refl h
     where
-      go : (b : Bool) → ltb mark steps ≡ b
-          → pick b (Step mark) (pick (leb 256 mark && ltb mark (256 + relations)) (Rows (mark - 256)) Nothing) ≡ Step n → n < steps
-      go true t e = let s : mark ≡ n = cc in omega (arith, ltb-true mark steps t)
-      go false t e = absurd (inner (leb 256 mark && ltb mark (256 + relations)) e)
+      go : (b : Bool) → ltb second steps ≡ b
+          → pick b (Step second) (pick (leb 256 second && ltb second (256 + relations)) (Rows (second - 256)) Nothing) ≡ Step n → n < steps
+      go true t e = let s : second ≡ n = cc in omega (arith, ltb-true second steps t)
+      go false t e = absurd (inner (leb 256 second && ltb second (256 + relations)) e)
 
-  pub rows-below : aboutOf steps relations mark ≡ Rows n → n < relations
+  pub rows-below : aboutOf steps relations second ≡ Rows n → n < relations
   unfolding aboutOf
-  rows-below h = go (ltb mark steps) (leb 256 mark && ltb mark (256 + relations)) refl h
+  rows-below h = go (ltb second steps) (leb 256 second && ltb second (256 + relations)) refl h
     where
-      go : (b d : Bool) → (leb 256 mark && ltb mark (256 + relations)) ≡ d → pick b (Step mark) (pick d (Rows (mark - 256)) Nothing) ≡ Rows n
+      go : (b d : Bool) → (leb 256 second && ltb second (256 + relations)) ≡ d → pick b (Step second) (pick d (Rows (second - 256)) Nothing) ≡ Rows n
           → n < relations
       go true d t e = let z : _≡_ {A = ℕ} 0 1 = cc in absurd (never z)
       go false false t e = let z : _≡_ {A = ℕ} 0 1 = cc in absurd (never z)
       go false true t e =
-          let s : mark - 256 ≡ n = cc in
-          omega (arith, leb-true 256 mark (and-left _ _ t), ltb-true mark (256 + relations) (and-right (leb 256 mark) _ t))
+          let s : second - 256 ≡ n = cc in
+          omega (arith, leb-true 256 second (and-left _ _ t), ltb-true second (256 + relations) (and-right (leb 256 second) _ t))
 
 -- ---- a value message is understood as what it was
 
@@ -78,9 +78,13 @@ module _ (run n : ℕ) (values : List ℕ) where
   unfolding valueMessage
   value-run = refl
 
-  pub value-mark : markOf (valueMessage run n values) ≡ n
+  pub value-second : secondOf (valueMessage run n values) ≡ n
   unfolding valueMessage
-  value-mark = refl
+  value-second = refl
+
+  pub value-front : frontLength ≤ length (valueMessage run n values)
+  unfolding valueMessage
+  value-front = omega arith
 
   pub value-body : bodyOf (valueMessage run n values) ≡ values
   unfolding valueMessage
@@ -119,9 +123,13 @@ module _ (run r : ℕ) (rows : Table) where
   unfolding rowMessage
   row-run = refl
 
-  pub row-mark : markOf (rowMessage run r rows) ≡ 256 + r
+  pub row-second : secondOf (rowMessage run r rows) ≡ 256 + r
   unfolding rowMessage
-  row-mark = refl
+  row-second = refl
+
+  pub row-front : frontLength ≤ length (rowMessage run r rows)
+  unfolding rowMessage
+  row-front = omega arith
 
   module _ (k : ℕ) (w : Wide k rows) where
     pub row-counted : length rows ≤ 4096 → counted k (rowMessage run r rows) ≡ true

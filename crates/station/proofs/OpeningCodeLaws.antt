@@ -12,28 +12,30 @@ use Rattle.ground.specs.Outcome.Outcome.{good, bad}
 use Rattle.ground.specs.declared.Verdict.{Verdict}
 use Rattle.ground.specs.declared.Verdict.the-variants.{Taken, Refused}
 use Rattle.ground.proofs.CountLaws.{split}
+use Rattle.ground.proofs.OutcomeLaws.{good-bad, taken-is, refused-is}
 use Rattle.ground.proofs.ListLaws.{getD-map}
 use Rattle.ground.proofs.NumbersLaws.{below-length, below-getD, map-below}
 use Rattle.ground.proofs.CollectingLaws.{Collecting, collecting-start, collecting-push, padded-full}
 use Rattle.fields.specs.Refusals.{beyondLimit, wrongShape, tooShort}
 use Rattle.contents.specs.Sites.{isAt}
+use Rattle.envelopes.specs.Rules.{Within}
 use Rattle.contents.specs.declared.envelope.Envelope.{Envelope}
 use Rattle.contents.proofs.SiteLaws.{at-none}
-use Rattle.papers.specs.Checks.{papersOf, shownPapers}
+use Rattle.papers.specs.Checks.{papersOf, shownPapers, GoodPapers}
 use Rattle.papers.specs.declared.programs.Program.{Program}
 use Rattle.papers.specs.declared.checks.Papers.{Papers}
 use Rattle.papers.specs.declared.checks.PapersRead.{PapersRead}
-use Rattle.papers.proofs.CheckLaws.{GoodPapers, papers-taken, papers-refused, papers-sound}
+use Rattle.papers.proofs.CheckLaws.{papers-taken, papers-refused, papers-sound}
 use Rattle.tables.specs.Offsets.{rowCount}
 use Rattle.tables.specs.Shape.{shaped}
 use Rattle.semijoin.specs.Marks.{marksAfter}
 use Rattle.semijoin.specs.Local.{openedIn, openOutcome}
+use Rattle.semijoin.proofs.CallLaws as calls
 use Rattle.station.specs.Calls.{leaves}
 use Rattle.station.specs.Ends.{Marked, startOf, noEnd}
 use Rattle.station.specs.Opening.{hereAt, openWith, openOf, shownOpened, openedMarks}
 use Rattle.station.specs.declared.ends.End.{End}
 use Rattle.station.specs.declared.opening.Opened.{Opened}
-use Rattle.station.proofs.SemijoinCalls.{open-short, open-set}
 
 -- ---- which relations are here
 
@@ -72,6 +74,29 @@ module _ (e : Envelope) (site : ℕ) where
       (λ h.
       rw f
       (getD-map (isAt e site) (below 8) r 0 false (rw (below-length 8) h) ∙ ap (isAt e site) (below-getD 8 r 0 h)))
+
+-- ---- what opening the marks leaves where the envelope and the shape are good: 11, or the marks set
+
+module _ (e : Envelope) (within : Within e) (words : List ℕ) (shape : shaped e words ≡ true) (marks : List ℕ) (here : ℕ → Bool) (v : Verdict)
+    (after : List ℕ) (f : v ≡ verdictOf (openOutcome e words here marks)) (k : after ≡ marksAfter marks (openOutcome e words here marks)) where
+  abbrev result : Outcome (List ℕ)
+  result = openOutcome e words here marks
+
+  marks-short : (m p : ℕ) → v ≡ Refused m p → (length marks < rowCount e words) × (m ≡ tooShort) × (p ≡ 0) × (after ≡ marks)
+  marks-short m p h =
+      let found : result ≡ bad m p = refused-is result m p (sym f ∙ h) in
+      split (rowCount e words) (length marks)
+      (λ l. absurd (good-bad _ _ m p (sym (calls.open-taken e words here marks within shape l) ∙ found)))
+      (λ l.
+      let short : result ≡ bad tooShort 0 = calls.open-unmarked e words here marks within shape l in
+      let same : bad m p ≡ bad tooShort 0 = sym found ∙ short in
+      (l, cc, cc, k ∙ ap (marksAfter marks) short ∙ calls.marks-kept marks tooShort 0))
+
+  marks-opened : v ≡ Taken → (rowCount e words ≤ length marks) × (after ≡ openedIn e words here marks)
+  marks-opened h =
+      split (rowCount e words) (length marks)
+      (λ l. (l, k ∙ ap (marksAfter marks) (calls.open-taken e words here marks within shape l) ∙ calls.marks-set marks _ 0))
+      (λ l. absurd (good-bad _ _ tooShort 0 (sym (taken-is marks result (sym f ∙ h)) ∙ calls.open-unmarked e words here marks within shape l)))
 
 -- ---- what is answered
 
@@ -127,7 +152,7 @@ module _ (q : Papers) (site run : ℕ) (words marks : List ℕ) (b : Bool) (f : 
       unfolding openWith
       open-refused m p t z e =
           let (short, a, c, d) =
-          open-short (q .envelope) words shape marks (papers .within) (papers .tidied) (λ r. getD here r false) v after g k m p t in
+          marks-short (q .envelope) (papers .within) words shape marks (λ r. getD here r false) v after g k m p t in
           let found : openWith q site run words marks ≡ bad tooShort 0 =
           rw (shape, le-ltb 7 site h, lt-ltb (length marks) (rowCount (q .envelope) words) short) in
           rw d (opens-bad marks (openWith q site run words marks) tooShort 0 z found (e ∙ rw (a, c)))
@@ -135,7 +160,7 @@ module _ (q : Papers) (site run : ℕ) (words marks : List ℕ) (b : Bool) (f : 
       pub open-taken : v ≡ Taken → (x : End) → x ≡ startOf q site run → Opens (record { verdict = Taken; end = x }) after
       unfolding openWith
       open-taken t x e =
-          let (room, d) = open-set (q .envelope) words shape marks (papers .within) (papers .tidied) (λ r. getD here r false) v after g k t in
+          let (room, d) = marks-opened (q .envelope) (papers .within) words shape marks (λ r. getD here r false) v after g k t in
           let found
           : openWith q site run words marks
           ≡ good (record { end = startOf q site run; marks = openedIn (q .envelope) words (isAt (q .envelope) site) marks }) 0 =

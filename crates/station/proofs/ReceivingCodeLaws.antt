@@ -90,12 +90,12 @@ module _ (q : Papers) (x : End) (words marks store m : List ℕ) where
           )
 
 -- a step that a word speaks of is one of so many, and a relation one of eight
-module _ (steps relations mark : ℕ) (w : About) (e : w ≡ aboutOf steps relations mark) where
+module _ (steps relations second : ℕ) (w : About) (e : w ≡ aboutOf steps relations second) where
   pub spoken-step : (k : ℕ) → steps ≡ k → (n : ℕ) → w ≡ about.Step n → n < k
-  spoken-step k f n t = rw f at (step-below steps relations mark n (sym e ∙ t))
+  spoken-step k f n t = rw f at (step-below steps relations second n (sym e ∙ t))
 
   pub spoken-rows : (k : ℕ) → relations ≡ min 8 k → (n : ℕ) → w ≡ about.Rows n → n < 8
-  spoken-rows k f n t = omega (arith, rows-below steps relations mark n (sym e ∙ t))
+  spoken-rows k f n t = omega (arith, rows-below steps relations second n (sym e ∙ t))
 
 -- ---- the whole call
 

@@ -26,14 +26,13 @@ use Rattle.tables.specs.Shape.{shaped}
 use Rattle.tables.specs.Rows.{keptRows, wordOver, keptOver}
 use Rattle.semijoin.specs.Promise.{rowOf, keptAt}
 use Rattle.tables.specs.declared.offsets.Extent.{Extent}
-use Rattle.tables.proofs.ShapeLaws.{shaped-shape, columns-most}
+use Rattle.semijoin.proofs.PromiseLaws.{promise}
 use Rattle.station.specs.Messages.{rowMessage}
 use Rattle.station.specs.Making.{sentRows, fitted}
 use Rattle.station.specs.declared.making.Made.{Made}
 use Rattle.station.specs.declared.making.Made.the-variants.{Length, Refused}
 use Rattle.station.proofs.CountingLaws.{Counting, counting-yes, counting-no, counting-less}
 use Rattle.station.proofs.MakingCodeLaws.{Makes, makes-bad, makes-good, fitted-short, fitted-fits}
-use Rattle.station.proofs.SemijoinCalls.{kept-rows, kept-over, word-over}
 
 -- ---- counting the kept rows
 
@@ -141,28 +140,27 @@ module _ (e : Envelope) (words marks : List ℕ) (r : ℕ) where
   abbrev pub rowWords : ℕ → List ℕ
   rowWords i = map (wordIn (rowOf e words r i)) (keptColumns e r)
 
-  module _ (room : rowCount e words ≤ length marks) (h : r < relationCount e) where
-    pub sent-by : sentRows e words marks r ≡ map rowWords chosen
-    unfolding sentRows
-    sent-by =
-        ap (map (λ (row : Row). map (wordIn row) (keptColumns e r))) (kept-rows e words r marks room h)
-        ∙ map-map chosen
-      where
-        map-map : (l : List ℕ) → map (λ (row : Row). map (wordIn row) (keptColumns e r)) (map (rowOf e words r) l) ≡ map rowWords l
-        map-map [] = refl
-        map-map (x ∷ l) = rw (map-map l)
+  pub sent-by : sentRows e words marks r ≡ map rowWords chosen
+  unfolding sentRows
+  sent-by =
+      ap (map (λ (row : Row). map (wordIn row) (keptColumns e r))) (promise e .kept-are words marks r)
+      ∙ map-map chosen
+    where
+      map-map : (l : List ℕ) → map (λ (row : Row). map (wordIn row) (keptColumns e r)) (map (rowOf e words r) l) ≡ map rowWords l
+      map-map [] = refl
+      map-map (x ∷ l) = rw (map-map l)
 
-    pub message-is : (run : ℕ) → rowMessage run r (sentRows e words marks r) ≡ run ∷ (256 + r) ∷ length chosen ∷ each rowWords chosen
-    unfolding rowMessage
-    message-is run =
-        rw sent-by (rw (length-map chosen rowWords, each-map rowWords (λ (row : Row). row) chosen))
+  pub message-is : (run : ℕ) → rowMessage run r (sentRows e words marks r) ≡ run ∷ (256 + r) ∷ length chosen ∷ each rowWords chosen
+  unfolding rowMessage
+  message-is run =
+      rw sent-by (rw (length-map chosen rowWords, each-map rowWords (λ (row : Row). row) chosen))
 
-    row-width : (i : ℕ) → length (rowWords i) ≡ length (keptColumns e r)
-    row-width i = length-map (keptColumns e r) (wordIn (rowOf e words r i))
+  row-width : (i : ℕ) → length (rowWords i) ≡ length (keptColumns e r)
+  row-width i = length-map (keptColumns e r) (wordIn (rowOf e words r i))
 
-    pub message-long : (run : ℕ) → length (rowMessage run r (sentRows e words marks r)) ≡ 3 + length chosen * length (keptColumns e r)
-    message-long run =
-        ap (λ (l : List ℕ). length l) (message-is run) ∙ rw (words-long rowWords (length (keptColumns e r)) row-width chosen) (omega arith)
+  pub message-long : (run : ℕ) → length (rowMessage run r (sentRows e words marks r)) ≡ 3 + length chosen * length (keptColumns e r)
+  message-long run =
+      ap (λ (l : List ℕ). length l) (message-is run) ∙ rw (words-long rowWords (length (keptColumns e r)) row-width chosen) (omega arith)
 
 -- ---- the loop over a relation's rows
 

@@ -9,13 +9,14 @@ use lib.ListN.{length, getD, take}
 use lib.Seq.{sets, length-sets}
 use Rattle.ground.specs.Lists.{filter, below, each}
 use Rattle.ground.specs.Outcome.{Outcome}
-use Rattle.ground.specs.Refusing.{judged}
+use Rattle.ground.specs.Refusing.{judged, judgement}
 use Rattle.ground.specs.declared.Verdict.{Verdict}
 use Rattle.ground.specs.declared.Verdict.the-variants as v
 use Rattle.ground.proofs.ListLaws.{filter-length}
 use Rattle.ground.proofs.NumbersLaws.{below-length}
 use Rattle.ground.proofs.PuttingLaws.{sets-append}
 use Rattle.ground.proofs.CollectingLaws.{padded-take}
+use Rattle.ground.proofs.RefusingLaws.{judge-refused, judge-taken}
 use Rattle.fields.specs.Refusals.{tooShort, notOurs}
 use Rattle.contents.specs.Parts.{relationCount, columnsIn}
 use Rattle.contents.specs.Sites.{isAt}
@@ -28,13 +29,14 @@ use Rattle.papers.specs.Checks.{shownPapers}
 use Rattle.papers.specs.declared.programs.Program.{Program}
 use Rattle.papers.specs.declared.checks.Papers.{Papers}
 use Rattle.papers.specs.declared.checks.PapersRead.{PapersRead}
-use Rattle.tables.specs.Offsets.{countIn, rowCount, extentOf}
-use Rattle.tables.specs.Shape.{shaped, judgement}
+use Rattle.tables.specs.Offsets.{countIn, rowCount}
+use Rattle.tables.specs.Shape.{shaped}
+use Rattle.tables.specs.Offsets.{extentOf}
 use Rattle.tables.specs.Rows.{wordOver, keptOver}
 use Rattle.semijoin.specs.Promise.{keptAt}
 use Rattle.tables.specs.declared.offsets.Extent.{Extent}
 use Rattle.tables.proofs.ShapeLaws.{shaped-shape, columns-most}
-use Rattle.tables.proofs.JudgedLaws.{judge-refused, judge-taken}
+use Rattle.semijoin.proofs.CallLaws.{word-by, kept-by}
 use Rattle.station.specs.Reducing.{stepCount}
 use Rattle.station.specs.Ends.{usable, Usable}
 use Rattle.station.specs.Messages.{rowMessage}
@@ -45,7 +47,6 @@ use Rattle.station.specs.declared.making.Made.the-variants.{Length, Refu
 use Rattle.station.proofs.EndLaws.{here-below, call-refused, call-with}
 use Rattle.station.proofs.MakingCodeLaws.{Makes, makes-bad, makes-good, makes-same, fitted-short, fitted-fits, sending-ours}
 use Rattle.station.proofs.RowCodeLaws.{chosen, rowWords, message-is, message-long}
-use Rattle.station.proofs.SemijoinCalls.{kept-over, word-over}
 
 -- ---- the message into the buffer
 
@@ -74,13 +75,13 @@ module _ (e : Envelope) (words marks : List ℕ) (r : ℕ) (shape : shaped e wor
   chosen-is : filter (keptOver x marks) (below (x .rows)) ≡ chosen e words marks r
   chosen-is =
       ap (λ (y : Extent). filter (keptOver y marks) (below (y .rows))) a
-      ∙ ap (λ (p : ℕ → Bool). filter p (below (countIn e words r))) (fun-ext (kept-over e words r marks))
+      ∙ ap (λ (p : ℕ → Bool). filter p (below (countIn e words r))) (fun-ext λ i. kept-by e words (extentOf e words r) i r refl marks _ refl)
 
   words-are : (λ i. map (wordOver x words i) columns) ≡ rowWords e words marks r
   words-are =
       ap (λ (l : List ℕ). λ i. map (wordOver x words i) l) columns-are
       ∙ ap (λ (y : Extent). λ i. map (wordOver y words i) (keptColumns e r)) a
-      ∙ fun-ext (λ i. ap (λ (g : ℕ → ℕ). map g (keptColumns e r)) (fun-ext (word-over e words r i)))
+      ∙ fun-ext (λ i. ap (λ (g : ℕ → ℕ). map g (keptColumns e r)) (fun-ext λ c. word-by e words (extentOf e words r) i (place r c) refl _ refl))
 
   pub message-few : count ≤ 4096
   message-few =
@@ -102,7 +103,7 @@ module _ (e : Envelope) (words marks : List ℕ) (r : ℕ) (shape : shaped e wor
 
     length-is : length made ≡ 3 + count * width
     length-is =
-        message-long e words marks r room h run
+        message-long e words marks r run
         ∙ rw (width-is, f, chosen-is)
 
     pub message-short : length out < 3 + count * width → Makes out (fitted (length out) made) (Refused tooShort 0) out
@@ -121,7 +122,7 @@ module _ (e : Envelope) (words marks : List ℕ) (r : ℕ) (shape : shaped e wor
       message-made last k =
           makes-good out (fitted (length out) made) made (3 + count * width) last (fitted-fits (length out) made (omega (arith, length-is)))
           (sym length-is)
-          (k ∙ rw (m, words-are, chosen-is, f, message-is e words marks r room h run, chosen-is))
+          (k ∙ rw (m, words-are, chosen-is, f, message-is e words marks r run, chosen-is))
 
 -- ---- the call
 

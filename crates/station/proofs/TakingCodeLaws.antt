@@ -13,30 +13,35 @@ use Rattle.ground.specs.Outcome.{Outcome, next, verdictOf}
 use Rattle.ground.specs.Outcome.Outcome.{good, bad}
 use Rattle.ground.specs.declared.Verdict.the-variants.{Taken, Refused}
 use Rattle.ground.proofs.CountLaws.{split}
+use Rattle.ground.proofs.OutcomeLaws.{never}
 use Rattle.ground.proofs.PuttingLaws.{Copying, copying-length, copying-done}
 use Rattle.fields.specs.Refusals.{tooShort, notOurs, notSound, alreadyTaken, stepMissing}
 use Rattle.contents.specs.Sites.{isAt}
 use Rattle.contents.specs.Kept.{keptColumns, shownColumns}
 use Rattle.contents.specs.declared.envelope.Envelope.{Envelope}
 use Rattle.contents.specs.declared.kept.Columns.{Columns}
+use Rattle.entries.specs.declared.places.Place.{Place}
 use Rattle.paths.specs.Steps.{isPlace}
 use Rattle.paths.specs.declared.steps.Step.{Step}
 use Rattle.papers.specs.declared.checks.Papers.{Papers}
-use Rattle.papers.proofs.CheckLaws.{GoodPapers}
+use Rattle.papers.specs.Checks.{GoodPapers}
+use Rattle.tables.specs.Offsets.{rowCount}
+use Rattle.tables.specs.Shape.{shaped}
 use Rattle.tables.specs.Rising.{isRising}
 use Rattle.semijoin.specs.Marks.{reducedBy, reduceOutcome, reducedOf, marksAfter}
 use Rattle.semijoin.specs.declared.marks.Reduced.{Reduced}
 use Rattle.semijoin.specs.declared.marks.Reduced.the-variants as r
+use Rattle.semijoin.proofs.CallLaws.{reduce-falling, reduce-rows, reduce-marks, reduce-refused, reduce-stay}
+use Rattle.tables.proofs.RisingLaws.{rising-exact}
 use Rattle.station.specs.Reducing.{stepCount, stepOf, placeOf}
 use Rattle.station.specs.Calls.{leaves}
-use Rattle.station.specs.Ends.{Marked, Usable}
+use Rattle.station.specs.Ends.{Marked, Usable, appliedOf}
 use Rattle.station.specs.Messages.{counted, soundValues}
-use Rattle.station.specs.Receiving.{Stored, appliedTo, withApplied, withArrived, valuesTaken, rowsTaken, refusedBy, shownReceived}
+use Rattle.station.specs.Receiving.{Stored, withApplied, withArrived, valuesTaken, rowsTaken, refusedBy, shownReceived}
 use Rattle.station.specs.declared.ends.End.{End}
 use Rattle.station.specs.declared.receiving.Received.{Received}
 use Rattle.station.proofs.ReducingLaws.{place-most}
 use Rattle.station.proofs.EndLaws.{step-legal, here-below}
-use Rattle.station.proofs.SemijoinCalls.{reduce-falls, reduce-rises}
 
 -- ---- an outcome as the answer
 
@@ -76,8 +81,8 @@ pub applied-is : (x : End) (r n : ℕ)
       arrived = x .arrived;
       used = x .used;
     }
-    ≡ appliedTo x r n
-unfolding appliedTo
+    ≡ withApplied x r n
+unfolding withApplied
 applied-is x r n = refl
 
 pub arrived-is : (x : End) (r n : ℕ)
@@ -121,6 +126,35 @@ module _ (m by : List ℕ) (p : by ≡ drop 3 m) (place done : ℕ) (b : Bool) (
 
   pub next-early : not b ≡ false → done ≤ place → _≡_ {A = ℕ} 17 (pick (not (isRising (drop 3 m))) 15 (pick (ltb place done) 16 17))
   next-early t h = rw (← f, t, le-ltb place done h)
+
+-- ---- what reducing by values leaves where tables, marks and column are good: 15, or the marks of fewer rows
+
+module _ (e : Envelope) (words : List ℕ) (shape : shaped e words ≡ true) (marks : List ℕ) (room : rowCount e words ≤ length marks) (a : Place)
+    (here : isPlace e a ≡ true) (by : List ℕ) (n : ℕ) (y : Reduced) (after : List ℕ)
+    (f : y ≡ reducedOf n (reduceOutcome e a words by marks)) (k : after ≡ marksAfter marks (reduceOutcome e a words by marks)) where
+  reduce-falls : (m p : ℕ) → y ≡ r.Refused m p → (isRising by ≡ false) × (m ≡ notSound) × (p ≡ 0) × (after ≡ marks)
+  reduce-falls m p h = go (isRising by) refl
+    where
+      go : (b : Bool) → isRising by ≡ b → (isRising by ≡ false) × (m ≡ notSound) × (p ≡ 0) × (after ≡ marks)
+      go true t =
+          let same : r.Removed n ≡ r.Refused m p = sym (reduce-rows e a words by marks shape room here (rising-exact by .0 t) n) ∙ sym f ∙ h in
+          let z : _≡_ {A = ℕ} 0 1 = cc in
+          absurd (never z)
+      go false t =
+          let falls = reduce-falling e a words by marks shape room here t in
+          let same : r.Refused m p ≡ r.Refused notSound 0 = sym h ∙ f ∙ reduce-refused e a words by marks notSound 0 falls n in
+          (t, cc, cc, k ∙ reduce-stay e a words by marks notSound 0 falls)
+
+  reduce-rises : (i : ℕ) → y ≡ r.Removed i → (isRising by ≡ true) × (after ≡ reducedBy e words by a marks)
+  reduce-rises i h = go (isRising by) refl
+    where
+      go : (b : Bool) → isRising by ≡ b → (isRising by ≡ true) × (after ≡ reducedBy e words by a marks)
+      go true t = (t, k ∙ reduce-marks e a words by marks shape room here (rising-exact by .0 t))
+      go false t =
+          let falls = reduce-falling e a words by marks shape room here t in
+          let same : r.Refused notSound 0 ≡ r.Removed i = sym (reduce-refused e a words by marks notSound 0 falls n) ∙ sym f ∙ h in
+          let z : _≡_ {A = ℕ} 0 1 = cc in
+          absurd (never z)
 
 -- ---- values
 
@@ -190,16 +224,16 @@ module _ (q : Papers) (x : End) (words marks m : List ℕ) (n : ℕ) (u : Usable
             reduce-falls (q .envelope) words (u .shape) marks (u .room) (s .left) here by removed y after g k i p o in
             rw (w, a, v, stays) (takes-bad notSound 0 (rw (← e, ← f, t, sound-by, ← body, falls)))
 
-        pub values-applied : (v : ℕ) → y ≡ r.Removed v → (a : End) → a ≡ appliedTo x (s .left .relation) (done + 1)
+        pub values-applied : (v : ℕ) → y ≡ r.Removed v → (a : End) → a ≡ withApplied x (s .left .relation) (done + 1)
             → Takes (record { verdict = Taken; end = a }) after
-        unfolding valuesTaken withApplied
+        unfolding valuesTaken
         values-applied v o a w =
             let (rises, marked) =
             reduce-rises (q .envelope) words (u .shape) marks (u .room) (s .left) here by removed y after g k v o in
             let found
             : outcome
             ≡ good
-            (record { end = withApplied x (s .left .relation); marks = reducedBy (q .envelope) words (drop 3 m) (s .left) marks })
+            (record { end = withApplied x (s .left .relation) (appliedOf x (s .left .relation) + 1); marks = reducedBy (q .envelope) words (drop 3 m) (s .left) marks })
             0 =
             rw (← e, ← f, t, sound-by, ← body, rises, ← i, ← j, le-ltb place done (omega arith), le-ltb done place (omega arith)) in (
               shown-good (λ (s : Marked). s .end) x outcome _ 0 found a (w ∙ rw j),

@@ -1,7 +1,7 @@
 -- "An envelope, then a program, not given as bytes, also inside an end, is checked first as its bytes would be ..; an end
 -- with more applied steps of a relation than the program has gives 4 at 0 next." "Making: 10, 11 (marks) .. Receiving: 10, 11
 -- (marks)": what is asked of an end, the tables and the marks before anything else.
-use Prim.Native.Nat.{ℕ, _≤_}
+use Prim.Native.Nat.{ℕ, _≤_, _<_}
 use mathlib.Core.Path.{_≡_}
 use mathlib.Core.Bool.{Bool, true, false}
 use mathlib.Core.List.{List, [], _∷_}
@@ -15,10 +15,9 @@ use Rattle.fields.specs.Refusals.{beyondLimit}
 use Rattle.contents.specs.Parts.{relationCount, noEnvelope}
 use Rattle.contents.specs.declared.envelope.Envelope.{Envelope}
 use Rattle.papers.specs.Programs.{noProgram}
-use Rattle.papers.specs.Checks.{papersOf}
+use Rattle.papers.specs.Checks.{papersOf, GoodPapers}
 use Rattle.papers.specs.declared.programs.Program.{Program}
 use Rattle.papers.specs.declared.checks.Papers.{Papers}
-use Rattle.papers.proofs.CheckLaws.{GoodPapers}
 use Rattle.tables.specs.Offsets.{rowCount}
 use Rattle.tables.specs.Shape.{shaped, marksTests}
 use Rattle.station.specs.Reducing.{stepCount, placeOf}
@@ -57,6 +56,18 @@ pub record Usable (q : Papers) (words : List ℕ) (n : ℕ) : Type 0 where
   pub papers : GoodPapers q
   pub shape : shaped (q .envelope) words ≡ true
   pub room : rowCount (q .envelope) words ≤ n
+
+-- the papers of an end, as they stand in it
+abbrev pub papersIn : End → Papers
+papersIn x = record { envelope = x .envelope; program = x .program }
+
+-- an end as the calls hand it on, beside a store of so many words: its papers are good, no relation has more applied steps than
+-- the program has of it, each of eight relations has its place, and no more words are used than there are
+pub record Sound (x : End) (room : ℕ) : Type 0 where
+  pub papers : GoodPapers (papersIn x)
+  pub counts : (r : ℕ) → r < relationCount (x .envelope) → appliedOf x r ≤ placeOf (x .program) r (stepCount (x .program))
+  pub eight : (length (x .applied) ≡ 8) × (length (x .arrived) ≡ 8)
+  pub held : x .used ≤ room
 
 -- an end and its marks
 pub record Marked : Type 0 where

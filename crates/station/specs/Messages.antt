@@ -13,37 +13,48 @@ use Rattle.tables.specs.Rising.{isRising}
 use Rattle.station.specs.declared.messages.About.{About}
 use Rattle.station.specs.declared.messages.About.the-variants.{Step, Rows, Nothing}
 
+-- so many words stand in front of the body; a row message's second word is this much above its relation's number
+abbrev pub frontLength : ℕ
+frontLength = 3
+
+abbrev pub rowsFrom : ℕ
+rowsFrom = 256
+
 -- ---- made
 
+-- the run, what it speaks of, the count, then the body
+abbrev pub messageOf : ℕ → ℕ → ℕ → List ℕ → List ℕ
+messageOf run second count body = run ∷ second ∷ count ∷ body
+
 unfoldable pub valueMessage : ℕ → ℕ → List ℕ → List ℕ
-valueMessage run step values = run ∷ step ∷ length values ∷ values
+valueMessage run step values = messageOf run step (length values) values
 
 unfoldable pub rowMessage : ℕ → ℕ → Table → List ℕ
-rowMessage run r rows = run ∷ (256 + r) ∷ length rows ∷ each (λ (row : Row). row) rows
+rowMessage run r rows = messageOf run (rowsFrom + r) (length rows) (each (λ (row : Row). row) rows)
 
 -- ---- understood
 
 abbrev pub runOf : List ℕ → ℕ
 runOf m = getD m 0 0
 
-abbrev pub markOf : List ℕ → ℕ
-markOf m = getD m 1 0
+abbrev pub secondOf : List ℕ → ℕ
+secondOf m = getD m 1 0
 
 abbrev pub countOf : List ℕ → ℕ
 countOf m = getD m 2 0
 
 abbrev pub bodyOf : List ℕ → List ℕ
-bodyOf m = drop 3 m
+bodyOf m = drop frontLength m
 
 -- what the second word speaks of, of so many steps and relations: a step, a relation's rows, or nothing that there is
 unfoldable pub aboutOf : ℕ → ℕ → ℕ → About
-aboutOf steps relations mark =
-    pick (ltb mark steps) (Step mark)
-    (pick (leb 256 mark && ltb mark (256 + relations)) (Rows (mark - 256)) Nothing)
+aboutOf steps relations second =
+    pick (ltb second steps) (Step second)
+    (pick (leb rowsFrom second && ltb second (rowsFrom + relations)) (Rows (second - rowsFrom)) Nothing)
 
 -- "words not as many as the count says; count above 4,096": of k words for each that is counted
 unfoldable pub counted : ℕ → List ℕ → Bool
-counted k m = leb (countOf m) 4096 && eqb (length m) (3 + countOf m * k)
+counted k m = leb (countOf m) 4096 && eqb (length m) (frontLength + countOf m * k)
 
 -- and "values not strictly rising"
 unfoldable pub soundValues : List ℕ → Bool

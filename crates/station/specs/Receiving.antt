@@ -21,7 +21,7 @@ use Rattle.semijoin.specs.Marks.{reducedBy}
 use Rattle.station.specs.Reducing.{stepCount, stepOf, placeOf}
 use Rattle.station.specs.Calls.{leaves}
 use Rattle.station.specs.Ends.{Marked, appliedOf, hasArrived, usable}
-use Rattle.station.specs.Messages.{runOf, markOf, bodyOf, aboutOf, counted, soundValues}
+use Rattle.station.specs.Messages.{frontLength, runOf, secondOf, bodyOf, aboutOf, counted, soundValues}
 use Rattle.station.specs.declared.messages.About.{About}
 use Rattle.station.specs.declared.messages.About.the-variants as about
 use Rattle.station.specs.declared.ends.End.{End}
@@ -37,9 +37,9 @@ pub record Held : Type 0 where
   pub marks : List ℕ
   pub store : List ℕ
 
--- so many steps of a relation applied; one more; the row message of a relation arrived, of so many words
-unfoldable pub appliedTo : End → ℕ → ℕ → End
-appliedTo x r n =
+-- so many steps of a relation applied; the row message of a relation arrived, of so many words
+unfoldable pub withApplied : End → ℕ → ℕ → End
+withApplied x r n =
     record {
       envelope = x .envelope;
       program = x .program;
@@ -49,9 +49,6 @@ appliedTo x r n =
       arrived = x .arrived;
       used = x .used;
     }
-
-unfoldable pub withApplied : End → ℕ → End
-withApplied x r = appliedTo x r (appliedOf x r + 1)
 
 unfoldable pub withArrived : End → ℕ → ℕ → End
 withArrived x r words =
@@ -76,7 +73,7 @@ valuesTaken q x words marks m n =
     ∷ test (ltb place (appliedOf x (a .relation))) alreadyTaken 0
     ∷ test (ltb (appliedOf x (a .relation)) place) stepMissing 0
     ∷ [])
-    (good (record { end = withApplied x (a .relation); marks = reducedBy (q .envelope) words (bodyOf m) a marks }) 0)
+    (good (record { end = withApplied x (a .relation) (appliedOf x (a .relation) + 1); marks = reducedBy (q .envelope) words (bodyOf m) a marks }) 0)
 
 -- the rows of relation r
 unfoldable pub rowsTaken : Papers → End → List ℕ → List ℕ → ℕ → Outcome Stored
@@ -100,8 +97,8 @@ taken q x words marks store m about.Nothing = bad notOurs 0
 unfoldable pub receiveWith : Papers → End → List ℕ → List ℕ → List ℕ → List ℕ → Outcome Held
 receiveWith q x words marks store m =
     judged
-    (test (ltb (length m) 3) endsInside 0 ∷ test (not (eqb (runOf m) (x .run))) otherRun 0 ∷ [])
-    (taken q x words marks store m (aboutOf (stepCount (q .program)) (relationCount (q .envelope)) (markOf m)))
+    (test (ltb (length m) frontLength) endsInside 0 ∷ test (not (eqb (runOf m) (x .run))) otherRun 0 ∷ [])
+    (taken q x words marks store m (aboutOf (stepCount (q .program)) (relationCount (q .envelope)) (secondOf m)))
 
 unfoldable pub receiveOf : End → List ℕ → List ℕ → List ℕ → List ℕ → Outcome Held
 receiveOf x words marks store m = next (usable x words (length marks)) (λ q _. receiveWith q x words marks store m)

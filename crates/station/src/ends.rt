@@ -1,18 +1,12 @@
-// An end: what a station remembers of a run between calls; whether its papers and its counts are sound; and which relations
-// are here.
+// An end: what a station remembers of a run between calls; and whether its papers and its counts are sound.
 use contents::envelope::Envelope;
 use fields::refusals;
 use ground::Verdict;
-use papers::checks::Papers;
 use papers::checks::PapersRead;
 use papers::programs::Program;
-use paths::steps::Step;
 ghost use mathlib.Core.Path.{_≡_};
 ghost use Prim.Native.Nat.{min};
 ghost use lib.ListN.{getD};
-ghost use Rattle.ground.specs.Outcome.Outcome.{bad};
-ghost use Rattle.contents.specs.Sites.{isAt};
-ghost use Rattle.papers.specs.Programs.{noProgram};
 ghost use Rattle.papers.specs.Checks.{shownPapers};
 ghost use Rattle.station.specs.Ends.{overApplied, soundEnd, usable, noEnd};
 
@@ -28,28 +22,12 @@ pub struct End {
     pub used: usize,
 }
 
-fn no_program() -> Program
-    ensures { λ r. ⌜ r ≡ noProgram ⌝ }
-{
-    let place = entries::places::no_place();
-    let step = Step {
-        left: place,
-        right: place,
-    };
-    let steps = [step; 156];
-    Program {
-        site: 0,
-        count: 0,
-        steps: steps,
-    }
-}
-
 // What stands beside a refused opening.
 pub(crate) fn no_end() -> End
     ensures { λ r. ⌜ r ≡ noEnd ⌝ }
 {
     let envelope = contents::envelope::no_envelope();
-    let program = no_program();
+    let program = papers::programs::no_program();
     let applied = [0u32; 8];
     let arrived = [false; 8];
     End {
@@ -60,17 +38,6 @@ pub(crate) fn no_end() -> End
         applied: applied,
         arrived: arrived,
         used: 0,
-    }
-}
-
-fn refused_end(number: u8, position: usize) -> PapersRead
-    ensures { λ r. ⌜ r ≡ shownPapers (bad number position) ⌝ }
-{
-    let envelope = contents::envelope::no_envelope();
-    let program = no_program();
-    PapersRead {
-        verdict: Verdict::Refused { number, position },
-        papers: Papers { envelope, program },
     }
 }
 
@@ -99,29 +66,18 @@ pub fn sound_end(end: End) -> PapersRead
     let read = papers::checks::check_papers(envelope, program);
     let verdict = read.verdict;
     match verdict {
-        Verdict::Refused { number, position } => refused_end(number, position),
+        Verdict::Refused { number, position } => papers::checks::refused_papers(number, position),
         Verdict::Taken => {
             let papers = read.papers;
             let own = papers.envelope;
             let steps = papers.program;
             let applied = end.applied;
             if is_over_applied(steps, own.relation_count, applied) {
-                return refused_end(refusals::BEYOND_LIMIT, 0);
+                return papers::checks::refused_papers(refusals::BEYOND_LIMIT, 0);
             }
             read
         }
     }
-}
-
-// Whether a relation exists and is at a site, which is any word.
-pub fn is_here(envelope: Envelope, site: u32, relation: u8) -> bool
-    ensures { λ r. ⌜ r ≡ isAt envelope site relation ⌝ }
-{
-    if ground::used::in_use(8, envelope.relation_count) <= relation as usize {
-        return false;
-    }
-    let own = contents::sites::site_of(envelope, relation);
-    own as u32 == site
 }
 
 // The same, then the tables, and so many marks: 10, 11.
@@ -131,13 +87,16 @@ pub(crate) fn usable_end(end: End, tables: &[u32], n: usize) -> PapersRead
     let read = sound_end(end);
     let verdict = read.verdict;
     match verdict {
-        Verdict::Refused { number, position } => refused_end(number, position),
+        Verdict::Refused { number, position } => papers::checks::refused_papers(number, position),
         Verdict::Taken => {
             let papers = read.papers;
             let envelope = papers.envelope;
             let found = tables::shape::judge_marks(envelope, tables, n);
             match found {
-                Verdict::Refused { number, position } => refused_end(number, position),
+                Verdict::Refused { number, position } => papers::checks::refused_papers(
+                    number,
+                    position,
+                ),
                 Verdict::Taken => read,
             }
         }

@@ -12,7 +12,7 @@ ghost use mathlib.Core.Bool.{_&&_};
 ghost use lib.ListN.{length};
 ghost use lib.Dec.{ltb};
 ghost use Rattle.contents.specs.Sites.{isAt};
-ghost use Rattle.tables.specs.Shape.{judgement};
+ghost use Rattle.ground.specs.Refusing.{judgement};
 ghost use Rattle.station.specs.Reducing.{stepCount};
 ghost use Rattle.station.specs.Ends.{Usable};
 ghost use Rattle.station.specs.Making.{sendTests, valuesWith, makeValuesOf, rowsWith, makeRowsOf, shownMade, madeIn};
@@ -34,7 +34,7 @@ fn judge_sending(program: Program, applied: [u32; 8], ours: bool, relation: u8, 
         };
     }
     let done = crate::ends::applied_of(applied, relation);
-    let missing = crate::reducing::first_missing(program, relation, done, n);
+    let missing = crate::reducing::missing_of(program, relation, done, n);
     match missing {
         Missing::First(step) => Verdict::Refused {
             number: refusals::WAITING,
@@ -51,7 +51,7 @@ fn sends_step(envelope: Envelope, program: Program, site: u32, n: usize, relatio
     if crate::reducing::step_count(program) as usize <= n {
         return false;
     }
-    crate::ends::is_here(envelope, site, relation)
+    contents::sites::is_at(envelope, site, relation)
 }
 
 // With a usable end: 14, 12, 11.
@@ -77,12 +77,19 @@ fn values_with(
     match verdict {
         Verdict::Refused { number, position } => Made::Refused { number, position },
         Verdict::Taken => {
-            let gathered = tables::values::values_into(envelope, right, tables, marks, 3, message);
+            let gathered = tables::values::values_into(
+                envelope,
+                right,
+                tables,
+                marks,
+                crate::messages::FRONT,
+                message,
+            );
             match gathered {
                 Gathered::Refused { number, position } => Made::Refused { number, position },
                 Gathered::Length(count) => {
                     crate::messages::put_front(message, end.run, step, count as u32);
-                    Made::Length(3 + count)
+                    Made::Length(crate::messages::FRONT + count)
                 }
             }
         }
@@ -126,7 +133,7 @@ fn rows_with(
         };
     }
     let own = relation as u8;
-    let ours = crate::ends::is_here(envelope, end.site, own);
+    let ours = contents::sites::is_at(envelope, end.site, own);
     let steps = crate::reducing::step_count(program);
     let verdict = judge_sending(program, applied, ours, own, steps as usize);
     match verdict {

@@ -8,7 +8,7 @@ use papers::programs::Program;
 ghost use mathlib.Core.Path.{_≡_};
 ghost use Rattle.ground.specs.Outcome.Outcome.{bad};
 ghost use Rattle.contents.specs.Sites.{isAt};
-ghost use Rattle.papers.proofs.CheckLaws.{GoodPapers};
+ghost use Rattle.papers.specs.Checks.{GoodPapers};
 ghost use Rattle.station.specs.Ends.{startOf};
 ghost use Rattle.station.specs.Opening.{openWith, openOf, shownOpened, openedMarks, hereAt};
 
@@ -53,7 +53,7 @@ fn here_at(envelope: Envelope, site: u32) -> [bool; 8]
     let mut here = [false; 8];
     let mut relation: u8 = 0;
     while relation < 8 {
-        let own = crate::ends::is_here(envelope, site, relation);
+        let own = contents::sites::is_at(envelope, site, relation);
         here[relation as usize] = own;
         relation += 1;
     }

@@ -8,7 +8,7 @@ use semijoin::marks::Reduced;
 ghost use mathlib.Core.Path.{_≡_};
 ghost use mathlib.Core.Bool.{not};
 ghost use Prim.Native.Nat.{_+_, _≤_, _<_};
-ghost use lib.ListN.{length, getD, drop};
+ghost use lib.ListN.{length, getD};
 ghost use lib.Seq.{sets};
 ghost use lib.Dec.{ltb};
 ghost use Rattle.ground.specs.Tests.{pick};
@@ -17,10 +17,11 @@ ghost use Rattle.tables.specs.Rising.{isRising};
 ghost use Rattle.station.specs.Reducing.{stepCount};
 ghost use Rattle.station.specs.Calls.{leaves};
 ghost use Rattle.station.specs.Ends.{Usable, Marked};
+ghost use Rattle.station.specs.Messages.{frontLength, bodyOf};
 ghost use Rattle.station.specs.Receiving.{
   Stored,
   Held,
-  appliedTo,
+  withApplied,
   withArrived,
   valuesTaken,
   rowsTaken,
@@ -50,7 +51,7 @@ fn refused(end: End, number: u8, position: usize) -> Received
 // So many steps of a relation applied.
 fn with_applied(end: End, relation: u8, count: u32) -> End
     requires { ⌜ relation < 8 ⌝ }
-    ensures { λ r. ⌜ r ≡ appliedTo end relation count ⌝ }
+    ensures { λ r. ⌜ r ≡ withApplied end relation count ⌝ }
 {
     let envelope = end.envelope;
     let program = end.program;
@@ -91,10 +92,10 @@ fn with_arrived(end: End, relation: u8, words: usize) -> End
 
 // A step that is not the next one of its relation: 15, 16 or 17.
 fn not_next(message: &[u32], place: u32, done: u32) -> u8
-    requires { ⌜ 3 ≤ length (now message) ⌝ }
-    ensures { λ r. ⌜ r ≡ pick (not (isRising (drop 3 (now (message .entry))))) 15 (pick (ltb place done) 16 17) ⌝ }
+    requires { ⌜ frontLength ≤ length (now message) ⌝ }
+    ensures { λ r. ⌜ r ≡ pick (not (isRising (bodyOf (now (message .entry))))) 15 (pick (ltb place done) 16 17) ⌝ }
 {
-    if !tables::rising::is_rising(&message[3..]) {
+    if !tables::rising::is_rising(&message[crate::messages::FRONT..]) {
         return refusals::NOT_SOUND;
     }
     if place < done {
@@ -113,7 +114,7 @@ fn take_values(
     message: &[u32],
     n: usize,
 ) -> Received
-    requires { ⌜ Usable papers (now tables) (length (now marks)) × (n < stepCount (papers .program)) × (3 ≤ length (now message)) ⌝ }
+    requires { ⌜ Usable papers (now tables) (length (now marks)) × (n < stepCount (papers .program)) × (frontLength ≤ length (now message)) ⌝ }
     ensures { λ r. ⌜ (r ≡ shownReceived (λ (s : Marked). s .end) end (valuesTaken papers end (now (tables .entry)) (now (marks .entry)) (now (message .entry)) n)) × (now (marks .exit) ≡ leaves (λ (s : Marked). s .marks) (now (marks .entry)) (valuesTaken papers end (now (tables .entry)) (now (marks .entry)) (now (message .entry)) n)) ⌝ }
 {
     let envelope = papers.envelope;
@@ -121,7 +122,7 @@ fn take_values(
     let applied = end.applied;
     let step = crate::reducing::step_of(program, n);
     let left = step.left;
-    if !crate::ends::is_here(envelope, end.site, left.relation) {
+    if !contents::sites::is_at(envelope, end.site, left.relation) {
         return refused(end, refusals::NOT_OURS, 0);
     }
     if !crate::messages::is_counted(message, 1) {
@@ -133,7 +134,13 @@ fn take_values(
         let number = not_next(message, place, done);
         return refused(end, number, 0);
     }
-    let reduced = semijoin::marks::reduce_by(envelope, left, tables, &message[3..], marks);
+    let reduced = semijoin::marks::reduce_by(
+        envelope,
+        left,
+        tables,
+        &message[crate::messages::FRONT..],
+        marks,
+    );
     match reduced {
         Reduced::Refused { number, position } => refused(end, number, position),
         Reduced::Removed(removed) => {
@@ -205,17 +212,21 @@ fn receive_with(
     requires { ⌜ Usable papers (now tables) (length (now marks)) ⌝ }
     ensures { λ r. ⌜ (r ≡ shownReceived (λ (h : Held). h .end) end (receiveWith papers end (now (tables .entry)) (now (marks .entry)) (now (store .entry)) (now (message .entry)))) × (now (marks .exit) ≡ receivedMarks (now (marks .entry)) (receiveWith papers end (now (tables .entry)) (now (marks .entry)) (now (store .entry)) (now (message .entry)))) × (now (store .exit) ≡ receivedStore (now (store .entry)) (receiveWith papers end (now (tables .entry)) (now (marks .entry)) (now (store .entry)) (now (message .entry)))) ⌝ }
 {
-    if message.len() < 3 {
+    if message.len() < crate::messages::FRONT {
         return refused(end, refusals::ENDS_INSIDE, 0);
     }
-    if message[0] != end.run {
+    if message[crate::messages::RUN] != end.run {
         return refused(end, refusals::OTHER_RUN, 0);
     }
     let envelope = papers.envelope;
     let program = papers.program;
     let steps = crate::reducing::step_count(program);
     let relations = ground::used::in_use(8, envelope.relation_count);
-    let about = crate::messages::speaks_of(steps, relations as u8, message[1]);
+    let about = crate::messages::speaks_of(
+        steps,
+        relations as u8,
+        message[crate::messages::SECOND],
+    );
     match about {
         About::Nothing => refused(end, refusals::NOT_OURS, 0),
         About::Step(n) => take_values(papers, end, tables, marks, message, n),

@@ -104,7 +104,7 @@ fn missing_in(steps: [Step; 156], count: u8, relation: u8, applied: u32, n: usiz
 }
 
 // With so many steps of a relation applied, the first missing one of those below n.
-pub fn first_missing(program: Program, relation: u8, applied: u32, n: usize) -> Missing
+pub fn missing_of(program: Program, relation: u8, applied: u32, n: usize) -> Missing
     ensures { λ r. ⌜ r ≡ missingOf program relation applied n ⌝ }
 {
     let steps = program.steps;

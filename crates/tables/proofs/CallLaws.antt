@@ -10,6 +10,7 @@ use borrow.Author.Tests.{le-leb, lt-ltb, le-ltb}
 use Rattle.ground.specs.Outcome.{Outcome}
 use Rattle.ground.specs.Outcome.Outcome.{good, bad}
 use Rattle.ground.specs.Refusing.{Test, test, judged}
+use Rattle.ground.proofs.RefusingLaws.{refusal-listed}
 use Rattle.fields.specs.Refusals.{wrongShape, tooShort, notOurs}
 use Rattle.entries.specs.declared.places.Place.{Place}
 use Rattle.contents.specs.declared.envelope.Envelope.{Envelope}
@@ -20,7 +21,6 @@ use Rattle.tables.specs.Rising.{among}
 use Rattle.tables.specs.Values.{valuesOf, risingValues, occursIn, roomTest, valuesOutcome, gatheredOf, gatheredIn}
 use Rattle.tables.specs.declared.offsets.Extent.{Extent}
 use Rattle.tables.specs.declared.values.Gathered.the-variants as g
-use Rattle.tables.proofs.JudgedLaws.{refusal-listed}
 
 -- ---- a call that begins with 10, 11: of any tests and effect behind them
 

@@ -6,10 +6,7 @@ use mathlib.Core.List.{List, [], _∷_, _++_}
 use lib.ListN.{length}
 use lib.Dec.{eqb, leb, ltb}
 use Rattle.ground.specs.Lists.{all, below}
-use Rattle.ground.specs.Outcome.{verdictOf}
-use Rattle.ground.specs.Outcome.Outcome.{good}
-use Rattle.ground.specs.Refusing.{Test, test, judged}
-use Rattle.ground.specs.declared.Verdict.{Verdict}
+use Rattle.ground.specs.Refusing.{Test, test}
 use Rattle.fields.specs.Refusals.{wrongShape, tooShort, notOurs}
 use Rattle.contents.specs.Parts.{relationCount}
 use Rattle.entries.specs.declared.places.Place.{Place}
@@ -33,7 +30,3 @@ marksTests e words n = test (not (shaped e words)) wrongShape 0 ∷ test (ltb n 
 -- 10, 11, 14: these, and the envelope has the column
 abbrev pub columnTests : Envelope → Place → List ℕ → ℕ → List Test
 columnTests e a words n = marksTests e words n ++ test (not (isPlace e a)) notOurs 0 ∷ []
-
--- what such tests say alone
-unfoldable pub judgement : List Test → Verdict
-judgement ts = verdictOf (judged ts (good (tt {0}) 0))

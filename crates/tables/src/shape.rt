@@ -4,7 +4,8 @@ use entries::places::Place;
 use fields::refusals;
 use ground::Verdict;
 ghost use mathlib.Core.Path.{_≡_};
-ghost use Rattle.tables.specs.Shape.{shaped, marksTests, columnTests, judgement};
+ghost use Rattle.ground.specs.Refusing.{judgement};
+ghost use Rattle.tables.specs.Shape.{shaped, marksTests, columnTests};
 
 pub fn is_shaped(envelope: Envelope, tables: &[u32]) -> bool
     ensures { λ r. ⌜ r ≡ shaped envelope (now (tables .entry)) ⌝ }

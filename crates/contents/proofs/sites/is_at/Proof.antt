@@ -16,8 +16,11 @@ returns c = search (at-none, needs)
 site-of-requires : tie.Need-site-of-requires
 site-of-requires c κs = search needs
 
+cast-result : tie.Need-cast-result
+cast-result c = search needs
+
 returns-2 : tie.Need-returns-2
 returns-2 c = search (at-site, needs)
 
 pub is-at-spec : {M : Type 1} → statement M
-is-at-spec = tie.close (tie.spec in-use-requires returns site-of-requires returns-2)
+is-at-spec = tie.close (tie.spec in-use-requires returns site-of-requires cast-result returns-2)

@@ -4,7 +4,7 @@ use Rattle.station.proofs.ends.no_end.Tie as tie
 use Rattle.station.proofs.ends.no_end.Reads as reads
 use Rattle.station.proofs.ends.no_end.Lts as lts
 use Rattle.contents.proofs.envelope.no_envelope.Reads as no-envelope-reads
-use Rattle.station.proofs.ends.no_program.Reads as no-program-reads
+use Rattle.papers.proofs.programs.no_program.Reads as no-program-reads
 
 -- src/ends.rt:50:9
 no-envelope-requires : tie.Need-no-envelope-requires

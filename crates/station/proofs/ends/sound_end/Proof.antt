@@ -6,7 +6,7 @@ use Rattle.station.proofs.ends.sound_end.Reads as reads
 use Rattle.station.proofs.ends.sound_end.Lts as lts
 use Rattle.papers.proofs.checks.check_papers.Reads as check-papers-reads
 use Rattle.station.proofs.ends.is_over_applied.Reads as is-over-applied-reads
-use Rattle.station.proofs.ends.refused_end.Reads as refused-end-reads
+use Rattle.papers.proofs.checks.refused_papers.Reads as refused-papers-reads
 
 -- src/ends.rt:98:9
 check-papers-requires : tie.Need-check-papers-requires
@@ -17,8 +17,8 @@ enum-known-verdict : tie.Need-enum-known-verdict
 enum-known-verdict c = search needs
 
 -- src/ends.rt:101:50
-refused-end-requires : tie.Need-refused-end-requires
-refused-end-requires c κs = search needs
+refused-papers-requires : tie.Need-refused-papers-requires
+refused-papers-requires c κs = search needs
 
 -- src/ends.rt:103:17
 enum-told : tie.Need-enum-told
@@ -29,8 +29,8 @@ is-over-applied-requires : tie.Need-is-over-applied-requires
 is-over-applied-requires c κs = search needs
 
 -- src/ends.rt:108:17
-refused-end-requires-2 : tie.Need-refused-end-requires-2
-refused-end-requires-2 c κs = search needs
+refused-papers-requires-2 : tie.Need-refused-papers-requires-2
+refused-papers-requires-2 c κs = search needs
 
 -- src/ends.rt:108:17
 returns : tie.Need-returns
@@ -50,10 +50,10 @@ sound-end-spec =
     (tie.spec
     check-papers-requires
     enum-known-verdict
-    refused-end-requires
+    refused-papers-requires
     enum-told
     is-over-applied-requires
-    refused-end-requires-2
+    refused-papers-requires-2
     returns
     returns-2
     returns-3)

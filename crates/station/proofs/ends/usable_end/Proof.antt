@@ -5,7 +5,7 @@ use Rattle.station.proofs.ends.usable_end.Tie as tie
 use Rattle.station.proofs.ends.usable_end.Reads as reads
 use Rattle.station.proofs.ends.usable_end.Lts as lts
 use Rattle.tables.proofs.shape.judge_marks.Reads as judge-marks-reads
-use Rattle.station.proofs.ends.refused_end.Reads as refused-end-reads
+use Rattle.papers.proofs.checks.refused_papers.Reads as refused-papers-reads
 use Rattle.station.proofs.ends.sound_end.Reads as sound-end-reads
 
 -- src/ends.rt:131:9
@@ -17,8 +17,8 @@ enum-known-verdict : tie.Need-enum-known-verdict
 enum-known-verdict c = search needs
 
 -- src/ends.rt:134:50
-refused-end-requires : tie.Need-refused-end-requires
-refused-end-requires c κs = search needs
+refused-papers-requires : tie.Need-refused-papers-requires
+refused-papers-requires c κs = search needs
 
 -- src/ends.rt:136:17
 enum-told : tie.Need-enum-told
@@ -33,8 +33,8 @@ enum-known-found : tie.Need-enum-known-found
 enum-known-found c = search needs
 
 -- src/ends.rt:140:58
-refused-end-requires-2 : tie.Need-refused-end-requires-2
-refused-end-requires-2 c κs = search needs
+refused-papers-requires-2 : tie.Need-refused-papers-requires-2
+refused-papers-requires-2 c κs = search needs
 
 -- src/ends.rt:141:35
 enum-told-2 : tie.Need-enum-told-2
@@ -58,11 +58,11 @@ usable-end-spec =
     (tie.spec
     sound-end-requires
     enum-known-verdict
-    refused-end-requires
+    refused-papers-requires
     enum-told
     judge-marks-requires
     enum-known-found
-    refused-end-requires-2
+    refused-papers-requires-2
     enum-told-2
     returns
     returns-2

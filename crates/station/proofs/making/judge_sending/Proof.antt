@@ -5,7 +5,7 @@ use Rattle.station.proofs.making.judge_sending.Tie as tie
 use Rattle.station.proofs.making.judge_sending.Reads as reads
 use Rattle.station.proofs.making.judge_sending.Lts as lts
 use Rattle.station.proofs.ends.applied_of.Reads as applied-of-reads
-use Rattle.station.proofs.reducing.first_missing.Reads as first-missing-reads
+use Rattle.station.proofs.reducing.missing_of.Reads as missing-of-reads
 
 -- src/making.rt:37:9
 returns : tie.Need-returns
@@ -16,8 +16,8 @@ applied-of-requires : tie.Need-applied-of-requires
 applied-of-requires c κs = search needs
 
 -- src/making.rt:43:9
-first-missing-requires : tie.Need-first-missing-requires
-first-missing-requires c κs = search needs
+missing-of-requires : tie.Need-missing-of-requires
+missing-of-requires c κs = search needs
 
 -- src/making.rt:45:24
 enum-known-missing : tie.Need-enum-known-missing
@@ -41,7 +41,7 @@ judge-sending-spec =
     (tie.spec
     returns
     applied-of-requires
-    first-missing-requires
+    missing-of-requires
     enum-known-missing
     enum-told
     returns-2

@@ -10,8 +10,8 @@ returns c = rows-nowhere _ _ _ _ _ _ (c .if1 .taken)
 cast-own : tie.Need-cast-own
 cast-own c = omega (arith, c .if1 .left)
 
-is-here-requires : tie.Need-is-here-requires
-is-here-requires c κs = search needs
+is-at-requires : tie.Need-is-at-requires
+is-at-requires c κs = search needs
 
 step-count-requires : tie.Need-step-count-requires
 step-count-requires c κs = search needs
@@ -29,16 +29,16 @@ enum-told : tie.Need-enum-told
 enum-told c = search needs
 
 put-row-message-requires : tie.Need-put-row-message-requires
-put-row-message-requires c κs = (c .before .before .before .before .before .before .before .before .before .before .before .before .before .pre .shape, c .before .before .before .before .before .before .before .before .before .before .before .before .before .pre .room, rows-here _ _ _ _ (c .before .before .before .before .before .before .before .before .before .before .before .before .before .args .end .applied) _ (c .before .before .before .before .before .is-here .ensures) _ _ (c .before .before .before .judge-sending .ensures) (c .before .enum-told .given .1))
+put-row-message-requires c κs = (c .before .before .before .before .before .before .before .before .before .before .before .before .before .pre .shape, c .before .before .before .before .before .before .before .before .before .before .before .before .before .pre .room, rows-here _ _ _ _ (c .before .before .before .before .before .before .before .before .before .before .before .before .before .args .end .applied) _ (c .before .before .before .before .before .is-at .ensures) _ _ (c .before .before .before .judge-sending .ensures) (c .before .enum-told .given .1))
 
 returns-2 : tie.Need-returns-2
-returns-2 c = rows-wait _ _ _ _ _ _ _ (c .before .before .before .before .before .is-here .ensures) _ (c .before .before .before .before .step-count .ensures) _ (c .before .before .before .judge-sending .ensures) _ _ (c .before .verdict .given .1)
+returns-2 c = rows-wait _ _ _ _ _ _ _ (c .before .before .before .before .before .is-at .ensures) _ (c .before .before .before .before .step-count .ensures) _ (c .before .before .before .judge-sending .ensures) _ _ (c .before .verdict .given .1)
 
 same-length : tie.Need-same-length
 same-length c = search needs
 
 returns-3 : tie.Need-returns-3
-returns-3 c = rows-made _ _ _ _ _ _ _ (c .before .before .before .before .before .before .before .before .is-here .ensures) _ (c .before .before .before .before .before .before .before .step-count .ensures) _ (c .before .before .before .before .before .before .judge-sending .ensures) (c .before .before .before .before .enum-told .given .1) _ _ (c .before .before .put-row-message .ensures)
+returns-3 c = rows-made _ _ _ _ _ _ _ (c .before .before .before .before .before .before .before .before .is-at .ensures) _ (c .before .before .before .before .before .before .before .step-count .ensures) _ (c .before .before .before .before .before .before .judge-sending .ensures) (c .before .before .before .before .enum-told .given .1) _ _ (c .before .before .put-row-message .ensures)
 
 pub rows-with-spec : {M : Type 1} → statement M
 rows-with-spec =
@@ -46,7 +46,7 @@ rows-with-spec =
     (tie.spec
     returns
     cast-own
-    is-here-requires
+    is-at-requires
     step-count-requires
     cast-judge-sending
     judge-sending-requires

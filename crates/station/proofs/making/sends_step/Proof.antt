@@ -4,7 +4,7 @@ use Rattle.station.proofs.making.sends_step.Statement.{statement}
 use Rattle.station.proofs.making.sends_step.Tie as tie
 use Rattle.station.proofs.making.sends_step.Reads as reads
 use Rattle.station.proofs.making.sends_step.Lts as lts
-use Rattle.station.proofs.ends.is_here.Reads as is-here-reads
+use Rattle.contents.proofs.sites.is_at.Reads as is-at-reads
 use Rattle.station.proofs.reducing.step_count.Reads as step-count-reads
 
 -- src/making.rt:57:8
@@ -20,8 +20,8 @@ returns : tie.Need-returns
 returns c = search (sends-none, needs)
 
 -- src/making.rt:60:5
-is-here-requires : tie.Need-is-here-requires
-is-here-requires c κs = search needs
+is-at-requires : tie.Need-is-at-requires
+is-at-requires c κs = search needs
 
 -- src/making.rt:54:1
 returns-2 : tie.Need-returns-2
@@ -29,4 +29,4 @@ returns-2 c = search (sends-here, needs)
 
 pub sends-step-spec : {M : Type 1} → statement M
 sends-step-spec =
-    tie.close (tie.spec step-count-requires cast-if1 returns is-here-requires returns-2)
+    tie.close (tie.spec step-count-requires cast-if1 returns is-at-requires returns-2)

@@ -6,7 +6,7 @@ use Rattle.station.proofs.opening.here_at.Statement.{statement}
 use Rattle.station.proofs.opening.here_at.Tie as tie
 use Rattle.station.proofs.opening.here_at.Reads as reads
 use Rattle.station.proofs.opening.here_at.Lts as lts
-use Rattle.station.proofs.ends.is_here.Reads as is-here-reads
+use Rattle.contents.proofs.sites.is_at.Reads as is-at-reads
 
 abbrev Inv-loop : tie.InvT-loop
 Inv-loop envelope site here₀ relation₀ here relation = Here envelope site relation here
@@ -19,8 +19,8 @@ loop-holds : tie.Need-loop-holds Inv-loop μ-loop
 loop-holds c = search (here-start, needs)
 
 -- src/opening.rt:56:13
-is-here-requires : tie.Need-is-here-requires Inv-loop μ-loop
-is-here-requires c κs = search needs
+is-at-requires : tie.Need-is-at-requires Inv-loop μ-loop
+is-at-requires c κs = search needs
 
 -- src/opening.rt:57:14
 cast-here : tie.Need-cast-here Inv-loop μ-loop
@@ -53,7 +53,7 @@ here-at-spec =
     Inv-loop
     μ-loop
     loop-holds
-    is-here-requires
+    is-at-requires
     cast-here
     array-write-here
     add-relation

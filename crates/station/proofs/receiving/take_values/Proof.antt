@@ -8,14 +8,14 @@ use Rattle.station.proofs.receiving.take_values.Tie as tie
 step-of-requires : tie.Need-step-of-requires
 step-of-requires c κs = search needs
 
-is-here-requires : tie.Need-is-here-requires
-is-here-requires c κs = search needs
+is-at-requires : tie.Need-is-at-requires
+is-at-requires c κs = search needs
 
 refused-requires : tie.Need-refused-requires
 refused-requires c κs = search needs
 
 returns : tie.Need-returns
-returns c = values-elsewhere _ _ _ _ _ _ (c .before .before .before .before .before .before .before .before .before .before .before .pre .0) (c .before .before .before .before .before .before .before .before .before .before .before .pre .1) _ (c .before .before .before .before .step-of .ensures) _ (c .before .before .is-here .ensures) (c .before .if1 .taken) _ (c .refused .ensures)
+returns c = values-elsewhere _ _ _ _ _ _ (c .before .before .before .before .before .before .before .before .before .before .before .pre .0) (c .before .before .before .before .before .before .before .before .before .before .before .pre .1) _ (c .before .before .before .before .step-of .ensures) _ (c .before .before .is-at .ensures) (c .before .if1 .taken) _ (c .refused .ensures)
 
 is-counted-requires : tie.Need-is-counted-requires
 is-counted-requires c κs = search needs
@@ -24,7 +24,7 @@ refused-requires-2 : tie.Need-refused-requires-2
 refused-requires-2 c κs = search needs
 
 returns-2 : tie.Need-returns-2
-returns-2 c = values-uncounted _ _ _ _ _ _ (c .before .before .before .before .before .before .before .before .before .before .before .before .before .pre .0) (c .before .before .before .before .before .before .before .before .before .before .before .before .before .pre .1) _ (c .before .before .before .before .before .before .step-of .ensures) _ (c .before .before .before .before .is-here .ensures) (c .before .before .before .if1 .left) _ (c .before .before .is-counted .ensures) (c .before .if2 .taken) _ (c .refused2 .ensures)
+returns-2 c = values-uncounted _ _ _ _ _ _ (c .before .before .before .before .before .before .before .before .before .before .before .before .before .pre .0) (c .before .before .before .before .before .before .before .before .before .before .before .before .before .pre .1) _ (c .before .before .before .before .before .before .step-of .ensures) _ (c .before .before .before .before .is-at .ensures) (c .before .before .before .if1 .left) _ (c .before .before .is-counted .ensures) (c .before .if2 .taken) _ (c .refused2 .ensures)
 
 place-of-requires : tie.Need-place-of-requires
 place-of-requires c κs = search needs
@@ -39,7 +39,7 @@ refused-requires-3 : tie.Need-refused-requires-3
 refused-requires-3 c κs = search needs
 
 returns-3 : tie.Need-returns-3
-returns-3 c = values-other _ _ _ _ _ _ (c .before .before .before .before .before .before .before .before .before .before .before .before .before .before .before .before .before .pre .0) (c .before .before .before .before .before .before .before .before .before .before .before .before .before .before .before .before .before .pre .1) _ (c .before .before .before .before .before .before .before .before .before .before .step-of .ensures) _ (c .before .before .before .before .before .before .before .before .is-here .ensures) (c .before .before .before .before .before .before .before .if1 .left) _ (c .before .before .before .before .before .before .is-counted .ensures) (c .before .before .before .before .before .if2 .left) _ _ (c .before .before .before .before .place-of .ensures) (c .before .before .before .applied-of .ensures) (c .before .before .if3 .taken) _ (c .before .not-next .ensures) _ (c .refused3 .ensures)
+returns-3 c = values-other _ _ _ _ _ _ (c .before .before .before .before .before .before .before .before .before .before .before .before .before .before .before .before .before .pre .0) (c .before .before .before .before .before .before .before .before .before .before .before .before .before .before .before .before .before .pre .1) _ (c .before .before .before .before .before .before .before .before .before .before .step-of .ensures) _ (c .before .before .before .before .before .before .before .before .is-at .ensures) (c .before .before .before .before .before .before .before .if1 .left) _ (c .before .before .before .before .before .before .is-counted .ensures) (c .before .before .before .before .before .if2 .left) _ _ (c .before .before .before .before .place-of .ensures) (c .before .before .before .applied-of .ensures) (c .before .before .if3 .taken) _ (c .before .not-next .ensures) _ (c .refused3 .ensures)
 
 sub-reduce-by : tie.Need-sub-reduce-by
 sub-reduce-by c = omega (arith, c .before .before .before .before .before .before .before .before .before .before .before .before .before .before .before .pre .2)
@@ -66,26 +66,26 @@ add-with-applied : tie.Need-add-with-applied
 add-with-applied c = omega (arith, values-more _ (c .before .before .before .before .before .before .before .before .before .before .before .before .before .before .before .before .before .before .before .before .before .before .before .pre .0 .papers) _ _ (c .before .before .before .before .before .before .before .before .before .before .before .before .before .before .before .before .before .before .before .before .before .before .before .pre .1) _ _ (c .before .before .before .before .before .before .before .before .before .before .place-of .ensures) (c .before .before .before .before .before .before .before .before .if3 .left))
 
 with-applied-requires : tie.Need-with-applied-requires
-with-applied-requires c κs = values-eight _ _ _ _ (c .before .before .before .before .before .before .before .before .before .before .before .before .before .before .is-here .ensures) (c .before .before .before .before .before .before .before .before .before .before .before .before .before .if1 .left)
+with-applied-requires c κs = values-eight _ _ _ _ (c .before .before .before .before .before .before .before .before .before .before .before .before .before .before .is-at .ensures) (c .before .before .before .before .before .before .before .before .before .before .before .before .before .if1 .left)
 
 same-length : tie.Need-same-length
 same-length c = search needs
 
 returns-4 : tie.Need-returns-4
-returns-4 c = values-fall _ _ _ _ _ _ (c .before .before .before .before .before .before .before .before .before .before .before .before .before .before .before .before .before .before .before .before .before .before .before .before .pre .0) (c .before .before .before .before .before .before .before .before .before .before .before .before .before .before .before .before .before .before .before .before .before .before .before .before .pre .1) _ (c .before .before .before .before .before .before .before .before .before .before .before .before .before .before .before .before .before .step-of .ensures) _ (c .before .before .before .before .before .before .before .before .before .before .before .before .before .before .before .is-here .ensures) (c .before .before .before .before .before .before .before .before .before .before .before .before .before .before .if1 .left) _ (c .before .before .before .before .before .before .before .before .before .before .before .before .before .is-counted .ensures) (c .before .before .before .before .before .before .before .before .before .before .before .before .if2 .left) _ _ (c .before .before .before .before .before .before .before .before .before .before .before .place-of .ensures) (c .before .before .before .before .before .before .before .before .before .before .applied-of .ensures) (c .before .before .before .before .before .before .before .before .before .if3 .left) _ (body-part (c .before .before .before .before .before .before .before .before .before .before .before .before .before .before .before .before .before .before .before .before .before .before .before .before .args .message .now)) _ _ _ (c .before .before .before .before .before .before .reduce-by .ensures .0) (c .before .before .before .before .before .before .reduce-by .ensures .1) _ _ (c .before .before .reduced .given .1) _ (c .refused4 .ensures)
+returns-4 c = values-fall _ _ _ _ _ _ (c .before .before .before .before .before .before .before .before .before .before .before .before .before .before .before .before .before .before .before .before .before .before .before .before .pre .0) (c .before .before .before .before .before .before .before .before .before .before .before .before .before .before .before .before .before .before .before .before .before .before .before .before .pre .1) _ (c .before .before .before .before .before .before .before .before .before .before .before .before .before .before .before .before .before .step-of .ensures) _ (c .before .before .before .before .before .before .before .before .before .before .before .before .before .before .before .is-at .ensures) (c .before .before .before .before .before .before .before .before .before .before .before .before .before .before .if1 .left) _ (c .before .before .before .before .before .before .before .before .before .before .before .before .before .is-counted .ensures) (c .before .before .before .before .before .before .before .before .before .before .before .before .if2 .left) _ _ (c .before .before .before .before .before .before .before .before .before .before .before .place-of .ensures) (c .before .before .before .before .before .before .before .before .before .before .applied-of .ensures) (c .before .before .before .before .before .before .before .before .before .if3 .left) _ (body-part (c .before .before .before .before .before .before .before .before .before .before .before .before .before .before .before .before .before .before .before .before .before .before .before .before .args .message .now)) _ _ _ (c .before .before .before .before .before .before .reduce-by .ensures .0) (c .before .before .before .before .before .before .reduce-by .ensures .1) _ _ (c .before .before .reduced .given .1) _ (c .refused4 .ensures)
 
 same-length-2 : tie.Need-same-length-2
 same-length-2 c = search needs
 
 returns-5 : tie.Need-returns-5
-returns-5 c = values-applied _ _ _ _ _ _ (c .before .before .before .before .before .before .before .before .before .before .before .before .before .before .before .before .before .before .before .before .before .before .before .before .pre .0) (c .before .before .before .before .before .before .before .before .before .before .before .before .before .before .before .before .before .before .before .before .before .before .before .before .pre .1) _ (c .before .before .before .before .before .before .before .before .before .before .before .before .before .before .before .before .before .step-of .ensures) _ (c .before .before .before .before .before .before .before .before .before .before .before .before .before .before .before .is-here .ensures) (c .before .before .before .before .before .before .before .before .before .before .before .before .before .before .if1 .left) _ (c .before .before .before .before .before .before .before .before .before .before .before .before .before .is-counted .ensures) (c .before .before .before .before .before .before .before .before .before .before .before .before .if2 .left) _ _ (c .before .before .before .before .before .before .before .before .before .before .before .place-of .ensures) (c .before .before .before .before .before .before .before .before .before .before .applied-of .ensures) (c .before .before .before .before .before .before .before .before .before .if3 .left) _ (body-part (c .before .before .before .before .before .before .before .before .before .before .before .before .before .before .before .before .before .before .before .before .before .before .before .before .args .message .now)) _ _ _ (c .before .before .before .before .before .before .reduce-by .ensures .0) (c .before .before .before .before .before .before .reduce-by .ensures .1) _ (c .before .before .reduced2 .given .1) _ (c .with-applied .ensures)
+returns-5 c = values-applied _ _ _ _ _ _ (c .before .before .before .before .before .before .before .before .before .before .before .before .before .before .before .before .before .before .before .before .before .before .before .before .pre .0) (c .before .before .before .before .before .before .before .before .before .before .before .before .before .before .before .before .before .before .before .before .before .before .before .before .pre .1) _ (c .before .before .before .before .before .before .before .before .before .before .before .before .before .before .before .before .before .step-of .ensures) _ (c .before .before .before .before .before .before .before .before .before .before .before .before .before .before .before .is-at .ensures) (c .before .before .before .before .before .before .before .before .before .before .before .before .before .before .if1 .left) _ (c .before .before .before .before .before .before .before .before .before .before .before .before .before .is-counted .ensures) (c .before .before .before .before .before .before .before .before .before .before .before .before .if2 .left) _ _ (c .before .before .before .before .before .before .before .before .before .before .before .place-of .ensures) (c .before .before .before .before .before .before .before .before .before .before .applied-of .ensures) (c .before .before .before .before .before .before .before .before .before .if3 .left) _ (body-part (c .before .before .before .before .before .before .before .before .before .before .before .before .before .before .before .before .before .before .before .before .before .before .before .before .args .message .now)) _ _ _ (c .before .before .before .before .before .before .reduce-by .ensures .0) (c .before .before .before .before .before .before .reduce-by .ensures .1) _ (c .before .before .reduced2 .given .1) _ (c .with-applied .ensures)
 
 pub take-values-spec : {M : Type 1} → statement M
 take-values-spec =
     tie.close
     (tie.spec
     step-of-requires
-    is-here-requires
+    is-at-requires
     refused-requires
     returns
     is-counted-requires
