@@ -12,3 +12,10 @@ pub mod ReceivingCodeLaws
 pub mod RowCodeLaws
 pub mod RowMessageCodeLaws
 pub mod MadeLaws
+pub mod SoundLaws
+pub mod OpenedLaws
+pub mod MakingLaws
+pub mod ReceivedLaws
+pub mod DeliveredLaws
+pub mod StaysLaws
+pub mod RoomLaws

@@ -1,0 +1,180 @@
+-- What was made at one end, delivered to another of the same run and papers: where the tables there are of the shape and the
+-- marks enough, it is taken, or refused because it is not that end's (14), was there before (16), comes too early (17) or finds no
+-- room in the store (11). It is never refused as cut short, of another run, or not sound.
+use mathlib.Core.Path.{_≡_, refl, ap, sym, _∙_}
+use mathlib.Core.Bool.{Bool, true, false, not}
+use mathlib.Core.List.{List, [], _∷_, _++_, List·Memᴰ}
+use mathlib.Core.Logic.{_⊎_, inl, inr}
+use Prim.Native.Nat.{ℕ, _+_, _≤_, _<_}
+use native.Mathlib.Omega.{arith}
+use lib.ListN.{length, getD}
+use lib.Dec.{ltb, eqb}
+use borrow.Author.Tests.{le-ltb, eq-eqb}
+use Rattle.ground.specs.Outcome.{Outcome, next}
+use Rattle.ground.specs.Outcome.Outcome.{good, bad}
+use Rattle.ground.specs.Refusing.{Test, test, judged}
+use Rattle.ground.proofs.OutcomeLaws.{next-bad, good-bad}
+use Rattle.ground.proofs.RefusingLaws.{judged-insert, refusal-listed}
+use Rattle.fields.specs.Refusals.{tooShort, notOurs, notSound, alreadyTaken, stepMissing}
+use Rattle.contents.specs.Parts.{relationCount}
+use Rattle.contents.specs.Sites.{isAt}
+use Rattle.contents.specs.Kept.{keptColumns}
+use Rattle.papers.specs.Checks.{GoodPapers}
+use Rattle.papers.specs.declared.checks.Papers.{Papers}
+use Rattle.semijoin.specs.Shape.{shaped}
+use Rattle.semijoin.specs.Values.{risingValues}
+use Rattle.station.specs.Reducing.{stepCount, stepOf, placeOf}
+use Rattle.station.specs.Ends.{Marked, appliedOf, hasArrived}
+use Rattle.station.specs.Messages.{frontLength, valueMessage, rowMessage, runOf, secondOf, aboutOf, counted, soundValues}
+use Rattle.station.specs.Making.{sentRows}
+use Rattle.station.specs.Receiving.{Stored, Held, valuesTaken, rowsTaken, taken, receiveWith}
+use Rattle.station.specs.declared.messages.About.{About}
+use Rattle.station.specs.declared.messages.About.the-variants as about
+use Rattle.station.specs.declared.ends.End.{End}
+use Rattle.station.proofs.EndLaws.{here-below}
+use Rattle.station.proofs.MessageLaws.{about-step, about-rows, value-run, value-second, row-run, row-second, value-front, row-front}
+use Rattle.station.proofs.MadeLaws.{values-sound, rows-counted}
+use Rattle.station.proofs.MakingLaws.{ValuesMade, RowsMade}
+use Rattle.station.proofs.ReceivedLaws.{stepTests, stepEffect, step-judged, rowsTests, rowsEffect, rows-judged}
+
+module _ (q : Papers) (y : End) (others those store m : List ℕ) where
+  -- a message of this run, by what it speaks of
+  spoken : frontLength ≤ length m → runOf m ≡ y .run → (w : About) → aboutOf (stepCount (q .program)) (relationCount (q .envelope)) (secondOf m) ≡ w
+      → receiveWith q y others those store m ≡ taken q y others those store m w
+  unfolding receiveWith
+  spoken long run w e = rw (le-ltb (length m) frontLength long, eq-eqb (runOf m) (y .run) run, e)
+
+  abbrev held : Marked → Held
+  held s = record { end = s .end; marks = s .marks; store = store }
+
+  abbrev kept : Stored → Held
+  kept s = record { end = s .end; marks = those; store = s .store }
+
+  step-refused : (n k u : ℕ) → taken q y others those store m (about.Step n) ≡ bad k u → valuesTaken q y others those m n ≡ bad k u
+  unfolding taken
+  step-refused n k u h = go (next-bad (valuesTaken q y others those m n) _ k u h)
+    where
+      go : (valuesTaken q y others those m n ≡ bad k u)
+          ⊎ ((s : Marked) × (p : ℕ) × (valuesTaken q y others those m n ≡ good s p) × (good (held s) p ≡ bad k u))
+          → valuesTaken q y others those m n ≡ bad k u
+      go (inl e) = e
+      go (inr (s, p, _, e)) = absurd (good-bad (held s) p k u e)
+
+  rows-refused : (r k u : ℕ) → taken q y others those store m (about.Rows r) ≡ bad k u → rowsTaken q y store m r ≡ bad k u
+  unfolding taken
+  rows-refused r k u h = go (next-bad (rowsTaken q y store m r) _ k u h)
+    where
+      go : (rowsTaken q y store m r ≡ bad k u)
+          ⊎ ((s : Stored) × (p : ℕ) × (rowsTaken q y store m r ≡ good s p) × (good (kept s) p ≡ bad k u)) → rowsTaken q y store m r ≡ bad k u
+      go (inl e) = e
+      go (inr (s, p, _, e)) = absurd (good-bad (kept s) p k u e)
+
+not-off : (b : Bool) → b ≡ true → not b ≡ false
+not-off b t = rw t
+
+module _ (q : Papers) (good-papers : GoodPapers q) (x : End) (words marks : List ℕ) (shape : shaped (q .envelope) words ≡ true) (y : End)
+    (same : y .run ≡ x .run) (others those store m : List ℕ) where
+  -- ---- a value message
+
+  module _ (n : ℕ) (made : ValuesMade q x words marks n m) where
+    abbrev values : List ℕ
+    values = risingValues (q .envelope) words marks (stepOf (q .program) n .right)
+
+    step-spoken : receiveWith q y others those store m ≡ taken q y others those store m (about.Step n)
+    step-spoken =
+        spoken q y others those store m (rw (made .is) (value-front (x .run) n values))
+        (rw (made .is) (value-run (x .run) n values ∙ sym same)) (about.Step n)
+        (rw (made .is) (ap (aboutOf (stepCount (q .program)) (relationCount (q .envelope))) (value-second (x .run) n values))
+        ∙ about-step (stepCount (q .program)) (relationCount (q .envelope)) n (made .exists))
+
+    sound : soundValues m ≡ true
+    sound = rw (made .is) (values-sound (q .envelope) words marks shape (x .run) n (stepOf (q .program) n .right))
+
+    abbrev ours : Test
+    ours = test (not (isAt (q .envelope) (y .site) (stepOf (q .program) n .left .relation))) notOurs 0
+
+    abbrev again : Test
+    again =
+        test
+        (ltb (placeOf (q .program) (stepOf (q .program) n .left .relation) n) (appliedOf y (stepOf (q .program) n .left .relation)))
+        alreadyTaken 0
+
+    abbrev early : Test
+    early =
+        test
+        (ltb (appliedOf y (stepOf (q .program) n .left .relation)) (placeOf (q .program) (stepOf (q .program) n .left .relation) n))
+        stepMissing 0
+
+    pub values-delivered : (k u : ℕ) → receiveWith q y others those store m ≡ bad k u
+        → List·Memᴰ k (notOurs ∷ alreadyTaken ∷ stepMissing ∷ []) × (u ≡ 0)
+    values-delivered k u h =
+        let refused : valuesTaken q y others those m n ≡ bad k u = step-refused q y others those store m n k u (sym step-spoken ∙ h) in
+        let effect = good (stepEffect q y others those m n) 0 in
+        refusal-listed (ours ∷ again ∷ early ∷ []) (stepEffect q y others those m n) 0 k u (refl, (refl, (refl, tt)))
+        (sym (judged-insert (ours ∷ []) (again ∷ early ∷ []) (test (not (soundValues m)) notSound 0) effect (not-off _ sound))
+        ∙ sym (step-judged q y others those m n)
+        ∙ refused)
+
+    -- taken where its relation is and its turn has come
+    pub values-arrive : isAt (q .envelope) (y .site) (stepOf (q .program) n .left .relation) ≡ true
+        → placeOf (q .program) (stepOf (q .program) n .left .relation) n ≡ appliedOf y (stepOf (q .program) n .left .relation)
+        → receiveWith q y others those store m ≡ good (held q y others those store m (stepEffect q y others those m n)) 0
+    unfolding taken
+    values-arrive here due =
+        let r = stepOf (q .program) n .left .relation in
+        let found : valuesTaken q y others those m n ≡ good (stepEffect q y others those m n) 0 =
+        step-judged q y others those m n
+        ∙ rw (here, sound, le-ltb (placeOf (q .program) r n) (appliedOf y r) (omega arith), le-ltb (appliedOf y r) (placeOf (q .program) r n) (omega arith)) in
+        step-spoken ∙ rw found
+
+  -- ---- a row message
+
+  module _ (r : ℕ) (made : RowsMade q x words marks r m) where
+    abbrev rows : List ℕ
+    rows = rowMessage (x .run) r (sentRows (q .envelope) words marks r)
+
+    below : r < relationCount (q .envelope)
+    below = here-below (q .envelope) (x .site) r (made .here)
+
+    rows-spoken : receiveWith q y others those store m ≡ taken q y others those store m (about.Rows r)
+    rows-spoken =
+        let few : stepCount (q .program) ≤ 256 = omega (arith, good-papers .acceptable .count, good-papers .acceptable .whole) in
+        spoken q y others those store m (rw (made .is) (row-front (x .run) r (sentRows (q .envelope) words marks r)))
+        (rw (made .is) (row-run (x .run) r (sentRows (q .envelope) words marks r) ∙ sym same)) (about.Rows r)
+        (rw (made .is)
+        (ap (aboutOf (stepCount (q .program)) (relationCount (q .envelope))) (row-second (x .run) r (sentRows (q .envelope) words marks r)))
+        ∙ about-rows (stepCount (q .program)) (relationCount (q .envelope)) r few below)
+
+    whole : counted (length (keptColumns (q .envelope) r)) m ≡ true
+    whole = rw (made .is) (rows-counted (q .envelope) words marks shape r (x .run))
+
+    abbrev assembles : Test
+    assembles = test (not (eqb (y .site) (q .program .site))) notOurs 0
+
+    abbrev arrived : Test
+    arrived = test (hasArrived y r) alreadyTaken 0
+
+    abbrev full : Test
+    full = test (ltb (length store) (y .used + length m)) tooShort 0
+
+    pub rows-delivered : (k u : ℕ) → receiveWith q y others those store m ≡ bad k u
+        → List·Memᴰ k (notOurs ∷ alreadyTaken ∷ tooShort ∷ []) × (u ≡ 0)
+    rows-delivered k u h =
+        let refused : rowsTaken q y store m r ≡ bad k u = rows-refused q y others those store m r k u (sym rows-spoken ∙ h) in
+        let effect = good (rowsEffect q y store m r) 0 in
+        refusal-listed (assembles ∷ arrived ∷ full ∷ []) (rowsEffect q y store m r) 0 k u (refl, (refl, (refl, tt)))
+        (sym
+        (judged-insert (assembles ∷ []) (arrived ∷ full ∷ []) (test (not (counted (length (keptColumns (q .envelope) r)) m)) notSound 0) effect
+        (not-off _ whole))
+        ∙ sym (rows-judged q y store m r)
+        ∙ refused)
+
+    -- taken at the assembly site where none came before and there is room
+    pub rows-arrive : y .site ≡ q .program .site → hasArrived y r ≡ false → y .used + length m ≤ length store
+        → receiveWith q y others those store m ≡ good (kept q y others those store m (rowsEffect q y store m r)) 0
+    unfolding taken
+    rows-arrive here first fits =
+        let found : rowsTaken q y store m r ≡ good (rowsEffect q y store m r) 0 =
+        rows-judged q y store m r
+        ∙ rw (eq-eqb (y .site) (q .program .site) here, whole, first, le-ltb (length store) (y .used + length m) fits) in
+        rows-spoken ∙ rw found

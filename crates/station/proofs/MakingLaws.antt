@@ -1,0 +1,155 @@
+-- What making a message says: where it is taken, its facts; where it is refused, by which number, and that nothing changed.
+use mathlib.Core.Path.{_≡_, refl, ap, sym, _∙_}
+use mathlib.Core.Bool.{Bool, true, false, not, _&&_}
+use mathlib.Core.List.{List, [], _∷_, _++_, List·Memᴰ, List·Memᴰ·head, List·Memᴰ·tail, Memᴰ·append-left, Memᴰ·append-right}
+use mathlib.Core.Logic.{_⊎_, inl, inr}
+use Prim.Native.Nat.{ℕ, _≤_, _<_}
+use native.Mathlib.Omega.{arith}
+use lib.ListN.{length, getD}
+use lib.Dec.{ltb}
+use borrow.Author.Tests.{ltb-true, ltb-false, not-false}
+use Rattle.ground.specs.Outcome.{Outcome, next}
+use Rattle.ground.specs.Outcome.Outcome.{good, bad}
+use Rattle.ground.specs.Refusing.{Test, test, judged}
+use Rattle.ground.proofs.OutcomeLaws.{next-good, good-bad}
+use Rattle.ground.proofs.RefusingLaws.{judged-good, judged-number}
+use Rattle.ground.proofs.TestLaws.{and-left, and-right}
+use Rattle.fields.specs.Refusals.{tooShort, waiting, notOurs}
+use Rattle.contents.specs.Sites.{isAt}
+use Rattle.papers.specs.Checks.{papersOf}
+use Rattle.papers.specs.declared.programs.Program.{Program}
+use Rattle.papers.specs.declared.checks.Papers.{Papers}
+use Rattle.semijoin.specs.Values.{risingValues}
+use Rattle.station.specs.Reducing.{stepCount, stepOf, placeOf, isMissing, firstMissing}
+use Rattle.station.specs.Ends.{appliedOf, usable, Usable}
+use Rattle.station.specs.Messages.{valueMessage, rowMessage}
+use Rattle.station.specs.Making.{sendTests, fitted, valuesWith, makeValuesOf, sentRows, rowsWith, makeRowsOf, shownMade, madeIn}
+use Rattle.station.specs.declared.ends.End.{End}
+use Rattle.station.specs.declared.making.Made.{Made}
+use Rattle.station.specs.declared.making.Made.the-variants.{Length, Refused}
+use Rattle.station.proofs.CallLaws.{each-passes, leaves-refused}
+use Rattle.station.proofs.EndLaws.{usable-is}
+use Rattle.station.proofs.SoundLaws.{firstNumbers, ToldFirst, call-number}
+
+-- ---- 14, 12, 11, of any message
+
+module _ (p : Program) (applied : List ℕ) (ours : Bool) (r n room : ℕ) (w : List ℕ) where
+  abbrev sending : Outcome (List ℕ)
+  sending = judged (sendTests p applied ours r n) (fitted room w)
+
+  sent-facts : (m : List ℕ) (u : ℕ) → sending ≡ good m u
+      → (ours ≡ true) × (placeOf p r n ≤ getD applied r 0) × (m ≡ w) × (length m ≤ room) × (u ≡ length m)
+  unfolding fitted isMissing
+  sent-facts m u h =
+      let (none, rest) = judged-good (sendTests p applied ours r n) (fitted room w) m u .0 h in
+      let passed = each-passes (sendTests p applied ours r n) none in
+      let (fits, made) = judged-good (test (ltb room (length w)) tooShort 0 ∷ []) (good w (length w)) m u .0 rest in
+      let enough : length w ≤ room = ltb-false _ _ (each-passes (test (ltb room (length w)) tooShort 0 ∷ []) fits .0) in
+      let same : w ≡ m = cc in
+      let long : length w ≡ u = cc in
+      (not-false _ (passed .0), ltb-false _ _ (passed .1 .0), sym same, rw (← same) enough, sym long ∙ ap (λ (l : List ℕ). length l) same)
+
+  sent-number : (k u : ℕ) → sending ≡ bad k u → List·Memᴰ k (notOurs ∷ waiting ∷ tooShort ∷ [])
+  unfolding fitted
+  sent-number k u h = go (judged-number (sendTests p applied ours r n) (fitted room w) k u h)
+    where
+      last : List·Memᴰ k (tooShort ∷ []) ⊎ (good w (length w) ≡ bad k u) → List·Memᴰ k (notOurs ∷ waiting ∷ tooShort ∷ [])
+      last (inl m) = List·Memᴰ·tail (List·Memᴰ·tail m)
+      last (inr e) = absurd (good-bad w (length w) k u e)
+
+      go : List·Memᴰ k (notOurs ∷ waiting ∷ []) ⊎ (fitted room w ≡ bad k u) → List·Memᴰ k (notOurs ∷ waiting ∷ tooShort ∷ [])
+      go (inl m) = Memᴰ·append-left (tooShort ∷ []) m
+      go (inr e) = last (judged-number (test (ltb room (length w)) tooShort 0 ∷ []) (good w (length w)) k u e)
+
+-- ---- a value message
+
+pub record ValuesMade (q : Papers) (x : End) (words marks : List ℕ) (n : ℕ) (m : List ℕ) : Type 0 where
+  pub exists : n < stepCount (q .program)
+  pub here : isAt (q .envelope) (x .site) (stepOf (q .program) n .right .relation) ≡ true
+  pub ready : placeOf (q .program) (stepOf (q .program) n .right .relation) n ≤ appliedOf x (stepOf (q .program) n .right .relation)
+  pub is : m ≡ valueMessage (x .run) n (risingValues (q .envelope) words marks (stepOf (q .program) n .right))
+
+module _ (x : End) (words marks : List ℕ) (n room : ℕ) where
+  pub with-values : (q : Papers) (m : List ℕ) (u : ℕ) → valuesWith q x words marks n room ≡ good m u
+      → ValuesMade q x words marks n m × (length m ≤ room) × (u ≡ length m)
+  unfolding valuesWith
+  with-values q m u h =
+      let r = stepOf (q .program) n .right .relation in
+      let (ours, ready, is, fits, long) =
+      sent-facts (q .program) (x .applied) (ltb n (stepCount (q .program)) && isAt (q .envelope) (x .site) r) r n room
+      (valueMessage (x .run) n (risingValues (q .envelope) words marks (stepOf (q .program) n .right))) m u h in
+      (record { exists = ltb-true _ _ (and-left _ _ ours); here = and-right (ltb n (stepCount (q .program))) _ ours; ready = ready; is = is }, fits, long)
+
+  pub values-facts : (m : List ℕ) (u : ℕ) → makeValuesOf x words marks n room ≡ good m u
+      → (q : Papers) × Usable q words (length marks) × ValuesMade q x words marks n m × (length m ≤ room) × (u ≡ length m)
+  unfolding makeValuesOf
+  values-facts m u h =
+      let (q, at, fine, rest) = next-good (usable x words (length marks)) _ m u h in
+      let (made, fits, long) = with-values q m u rest in
+      (q, usable-is x words (length marks) q at fine, made, fits, long)
+
+  -- refused: as every call on an end, or by 14, 12, 11
+  pub values-number : (k u : ℕ) → makeValuesOf x words marks n room ≡ bad k u
+      → ToldFirst x words (length marks) k u ⊎ List·Memᴰ k (notOurs ∷ waiting ∷ tooShort ∷ [])
+  unfolding makeValuesOf valuesWith
+  values-number k u h = go (call-number x words (length marks) k u (λ q. valuesWith q x words marks n room) h)
+    where
+      go : ToldFirst x words (length marks) k u
+          ⊎ ((q : Papers) × (at : ℕ) × (usable x words (length marks) ≡ good q at) × (valuesWith q x words marks n room ≡ bad k u))
+          → ToldFirst x words (length marks) k u ⊎ List·Memᴰ k (notOurs ∷ waiting ∷ tooShort ∷ [])
+      go (inl t) = inl t
+      go (inr (q, at, _, e)) =
+          inr
+          (sent-number (q .program) (x .applied)
+          (ltb n (stepCount (q .program)) && isAt (q .envelope) (x .site) (stepOf (q .program) n .right .relation))
+          (stepOf (q .program) n .right .relation) n room
+          (valueMessage (x .run) n (risingValues (q .envelope) words marks (stepOf (q .program) n .right))) k u e)
+
+-- ---- a row message
+
+pub record RowsMade (q : Papers) (x : End) (words marks : List ℕ) (r : ℕ) (m : List ℕ) : Type 0 where
+  pub here : isAt (q .envelope) (x .site) r ≡ true
+  pub ready : placeOf (q .program) r (stepCount (q .program)) ≤ appliedOf x r
+  pub is : m ≡ rowMessage (x .run) r (sentRows (q .envelope) words marks r)
+
+module _ (x : End) (words marks : List ℕ) (r room : ℕ) where
+  pub with-rows : (q : Papers) (m : List ℕ) (u : ℕ) → rowsWith q x words marks r room ≡ good m u
+      → RowsMade q x words marks r m × (length m ≤ room) × (u ≡ length m)
+  unfolding rowsWith
+  with-rows q m u h =
+      let (ours, ready, is, fits, long) =
+      sent-facts (q .program) (x .applied) (isAt (q .envelope) (x .site) r) r (stepCount (q .program)) room
+      (rowMessage (x .run) r (sentRows (q .envelope) words marks r)) m u h in
+      (record { here = ours; ready = ready; is = is }, fits, long)
+
+  pub rows-facts : (m : List ℕ) (u : ℕ) → makeRowsOf x words marks r room ≡ good m u
+      → (q : Papers) × Usable q words (length marks) × RowsMade q x words marks r m × (length m ≤ room) × (u ≡ length m)
+  unfolding makeRowsOf
+  rows-facts m u h =
+      let (q, at, fine, rest) = next-good (usable x words (length marks)) _ m u h in
+      let (made, fits, long) = with-rows q m u rest in
+      (q, usable-is x words (length marks) q at fine, made, fits, long)
+
+  pub rows-number : (k u : ℕ) → makeRowsOf x words marks r room ≡ bad k u
+      → ToldFirst x words (length marks) k u ⊎ List·Memᴰ k (notOurs ∷ waiting ∷ tooShort ∷ [])
+  unfolding makeRowsOf rowsWith
+  rows-number k u h = go (call-number x words (length marks) k u (λ q. rowsWith q x words marks r room) h)
+    where
+      go : ToldFirst x words (length marks) k u
+          ⊎ ((q : Papers) × (at : ℕ) × (usable x words (length marks) ≡ good q at) × (rowsWith q x words marks r room ≡ bad k u))
+          → ToldFirst x words (length marks) k u ⊎ List·Memᴰ k (notOurs ∷ waiting ∷ tooShort ∷ [])
+      go (inl t) = inl t
+      go (inr (q, at, _, e)) =
+          inr
+          (sent-number (q .program) (x .applied) (isAt (q .envelope) (x .site) r) r (stepCount (q .program)) room
+          (rowMessage (x .run) r (sentRows (q .envelope) words marks r)) k u e)
+
+-- ---- a refusal leaves the buffer, and is answered
+
+module _ (out : List ℕ) (o : Outcome (List ℕ)) (n u : ℕ) (h : o ≡ bad n u) where
+  pub made-untouched : madeIn out o ≡ out
+  made-untouched = leaves-refused _ out o n u h
+
+  pub made-answer : shownMade o ≡ Refused n u
+  unfolding shownMade
+  made-answer = ap shownMade h
