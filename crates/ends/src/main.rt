@@ -9,58 +9,13 @@ use ground::Verdict;
 use papers::programs::Program;
 use paths::steps::Step;
 use station::ends::End;
-use station::making::Made;
+
+mod show;
 
 const RUN: u32 = 5;
 
 // The tables at site 1: relation 0 has the rows (1, 7) and (2, 8).
 const HERE: [u32; 6] = [2, 0, 1, 7, 2, 8];
-
-fn print_verdict(what: &[u8], verdict: Verdict) {
-    io::write_all(1, what);
-    match verdict {
-        Verdict::Taken => {
-            io::write_all(1, b": taken\n");
-        }
-        Verdict::Refused { number, position } => {
-            io::write_all(1, b": refused ");
-            io::print_decimal(1, number as u64);
-            io::write_all(1, b" ");
-            io::print_decimal(1, position as u64);
-            io::write_all(1, b"\n");
-        }
-    }
-}
-
-fn print_byte(value: u8) {
-    io::print_decimal(1, value as u64);
-}
-
-fn print_word(value: u32) {
-    io::print_decimal(1, value as u64);
-}
-
-fn print_marks(marks: &[u8]) {
-    io::write_all(1, b"  marks");
-    let mut i: usize = 0;
-    while i < marks.len() {
-        io::write_all(1, b" ");
-        print_byte(marks[i]);
-        i += 1;
-    }
-    io::write_all(1, b"\n");
-}
-
-fn print_words(what: &[u8], words: &[u32]) {
-    io::write_all(1, what);
-    let mut i: usize = 0;
-    while i < words.len() {
-        io::write_all(1, b" ");
-        print_word(words[i]);
-        i += 1;
-    }
-    io::write_all(1, b"\n");
-}
 
 // Domains of 10 and 20; relation 0 with a column of each, relation 1 with a column of the first; a join; a target.
 fn small() -> Envelope {
@@ -97,8 +52,8 @@ fn opening(what: &[u8], envelope: Envelope, program: Program, site: u32, tables:
     let mut marks = [9u8; 3];
     let opened = station::opening::open(envelope, program, site, RUN, tables, &mut marks);
     let verdict = opened.verdict;
-    print_verdict(what, verdict);
-    print_marks(&marks);
+    show::print_verdict(what, verdict);
+    show::print_marks(&marks);
 }
 
 fn joined(what: &[u8], left: Place, right: Place) {
@@ -155,8 +110,8 @@ fn openings() {
     let mut one = [9u8; 1];
     let opened = station::opening::open(small(), three(), 1, RUN, &here, &mut one);
     let verdict = opened.verdict;
-    print_verdict(b"open with one mark", verdict);
-    print_marks(&one);
+    show::print_verdict(b"open with one mark", verdict);
+    show::print_marks(&one);
 }
 
 fn opened() -> End {
@@ -168,10 +123,6 @@ fn opened() -> End {
 
 // ---- receiving
 
-fn print_applied(applied: [u32; 8]) {
-    print_words(b"  applied", &applied);
-}
-
 fn receiving(what: &[u8], end: End, message: &[u32]) -> End {
     let here = HERE;
     let mut marks = [5u8, 7];
@@ -179,11 +130,10 @@ fn receiving(what: &[u8], end: End, message: &[u32]) -> End {
     let received = station::receiving::receive(end, &here, &mut marks, &mut store, message);
     let verdict = received.verdict;
     let after = received.end;
-    let applied = after.applied;
-    print_verdict(what, verdict);
-    print_marks(&marks);
-    print_words(b"  store", &store);
-    print_applied(applied);
+    show::print_verdict(what, verdict);
+    show::print_marks(&marks);
+    show::print_words(b"  store", &store);
+    show::print_end(after);
     after
 }
 
@@ -193,9 +143,19 @@ fn refusals(end: End) {
     receiving(b"receive for another site", end, &[5u32, 1, 0]);
     receiving(b"receive of no such step", end, &[5u32, 3, 0]);
     receiving(b"receive of no such relation", end, &[5u32, 258, 0]);
+    receiving(b"receive of second word 255", end, &[5u32, 255, 0]);
+    receiving(b"receive of second word 263", end, &[5u32, 263, 0]);
+    receiving(b"receive of second word 264", end, &[5u32, 264, 0]);
+    receiving(b"receive of second word 511", end, &[5u32, 511, 0]);
     receiving(b"receive too few words", end, &[5u32, 0, 2, 3]);
     receiving(b"receive values that do not rise", end, &[5u32, 0, 2, 3, 3]);
     receiving(b"receive a count above 4,096", end, &[5u32, 0, 4097]);
+    receiving(b"receive the greatest count", end, &[5u32, 0, 4294967295]);
+    receiving(
+        b"receive the greatest count of rows",
+        end,
+        &[5u32, 256, 4294967295],
+    );
     receiving(
         b"receive with an earlier step missing",
         end,
@@ -225,43 +185,35 @@ fn unsound() {
         many,
         &[5u32, 0, 0],
     );
+    let mut full = end;
+    full.used = 18446744073709551615;
+    receiving(
+        b"receive rows with more used than there is",
+        full,
+        &[5u32, 257, 1, 2],
+    );
     let mut marks = [1u8; 1];
     let mut store = [0u32; 4];
     let here = HERE;
     let received = station::receiving::receive(end, &here, &mut marks, &mut store, &[5u32, 0, 0]);
     let verdict = received.verdict;
-    print_verdict(b"receive with one mark", verdict);
-    print_marks(&marks);
+    show::print_verdict(b"receive with one mark", verdict);
+    show::print_marks(&marks);
     let short = [2u32, 0, 1];
     let other = station::receiving::receive(end, &short, &mut marks, &mut store, &[5u32, 0, 0]);
     let found = other.verdict;
-    print_verdict(b"receive on tables cut short", found);
-    print_marks(&marks);
+    show::print_verdict(b"receive on tables cut short", found);
+    show::print_marks(&marks);
 }
 
 // ---- making
-
-fn print_made(what: &[u8], made: Made, message: &[u32]) {
-    match made {
-        Made::Length(n) => {
-            io::write_all(1, what);
-            io::write_all(1, b": made ");
-            io::print_decimal(1, n as u64);
-            io::write_all(1, b"\n");
-        }
-        Made::Refused { number, position } => {
-            print_verdict(what, Verdict::Refused { number, position });
-        }
-    }
-    print_words(b"  message", message);
-}
 
 fn values(what: &[u8], end: End, number: u32) {
     let here = HERE;
     let marks = [0u8, 1];
     let mut message = [9u32; 5];
     let made = station::making::make_values(end, &here, &marks, number, &mut message);
-    print_made(what, made, &message);
+    show::print_made(what, made, &message);
 }
 
 fn rows(what: &[u8], end: End, relation: u32) {
@@ -269,7 +221,7 @@ fn rows(what: &[u8], end: End, relation: u32) {
     let marks = [0u8, 1];
     let mut message = [9u32; 6];
     let made = station::making::make_rows(end, &here, &marks, relation, &mut message);
-    print_made(what, made, &message);
+    show::print_made(what, made, &message);
 }
 
 fn makings(end: End, last: End) {
@@ -285,7 +237,7 @@ fn makings(end: End, last: End) {
     let marks = [0u8, 1];
     let mut message = [9u32; 4];
     let made = station::making::make_rows(last, &here, &marks, 0, &mut message);
-    print_made(b"make rows that do not fit", made, &message);
+    show::print_made(b"make rows that do not fit", made, &message);
 }
 
 fn main() {

@@ -21,8 +21,8 @@ use Rattle.contents.specs.Sites.{isAt}
 use Rattle.contents.specs.Kept.{keptColumns}
 use Rattle.papers.specs.Checks.{GoodPapers}
 use Rattle.papers.specs.declared.checks.Papers.{Papers}
-use Rattle.semijoin.specs.Shape.{shaped}
-use Rattle.semijoin.specs.Values.{risingValues}
+use Rattle.tables.specs.Shape.{shaped}
+use Rattle.tables.specs.Values.{risingValues}
 use Rattle.station.specs.Reducing.{stepCount, stepOf, placeOf}
 use Rattle.station.specs.Ends.{Marked, appliedOf, hasArrived}
 use Rattle.station.specs.Messages.{frontLength, valueMessage, rowMessage, runOf, secondOf, aboutOf, counted, soundValues}

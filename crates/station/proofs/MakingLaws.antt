@@ -19,7 +19,7 @@ use Rattle.contents.specs.Sites.{isAt}
 use Rattle.papers.specs.Checks.{papersOf}
 use Rattle.papers.specs.declared.programs.Program.{Program}
 use Rattle.papers.specs.declared.checks.Papers.{Papers}
-use Rattle.semijoin.specs.Values.{risingValues}
+use Rattle.tables.specs.Values.{risingValues}
 use Rattle.station.specs.Reducing.{stepCount, stepOf, placeOf, isMissing, firstMissing}
 use Rattle.station.specs.Ends.{appliedOf, usable, Usable}
 use Rattle.station.specs.Messages.{valueMessage, rowMessage}

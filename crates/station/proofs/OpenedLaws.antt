@@ -23,8 +23,8 @@ use Rattle.papers.specs.Checks.{papersOf, GoodPapers}
 use Rattle.papers.specs.declared.programs.Program.{Program}
 use Rattle.papers.specs.declared.checks.Papers.{Papers}
 use Rattle.papers.proofs.CheckLaws.{papers-sound, papers-complete}
-use Rattle.semijoin.specs.Offsets.{rowCount}
-use Rattle.semijoin.specs.Shape.{shaped}
+use Rattle.tables.specs.Offsets.{rowCount}
+use Rattle.tables.specs.Shape.{shaped}
 use Rattle.semijoin.specs.Local.{openedIn}
 use Rattle.station.specs.Calls.{leaves}
 use Rattle.station.specs.Ends.{Marked, startOf, noEnd, Sound}

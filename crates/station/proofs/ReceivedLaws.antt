@@ -21,6 +21,8 @@ use Rattle.contents.specs.Sites.{isAt}
 use Rattle.contents.specs.Kept.{keptColumns}
 use Rattle.papers.specs.declared.checks.Papers.{Papers}
 use Rattle.semijoin.specs.Marks.{reducedBy}
+use Rattle.semijoin.specs.Promise.{keptAt}
+use Rattle.semijoin.proofs.CallLaws.{none-left}
 use Rattle.station.specs.Reducing.{stepCount, stepOf, placeOf}
 use Rattle.station.specs.Calls.{leaves}
 use Rattle.station.specs.Ends.{Marked, appliedOf, hasArrived, usable, Usable}
@@ -42,7 +44,7 @@ pub record StepTaken (q : Papers) (x : End) (words marks m : List ℕ) (n : ℕ)
   pub here : isAt (q .envelope) (x .site) (stepOf (q .program) n .left .relation) ≡ true
   pub sound : soundValues m ≡ true
   pub due : placeOf (q .program) (stepOf (q .program) n .left .relation) n ≡ appliedOf x (stepOf (q .program) n .left .relation)
-  pub end : y ≡ withApplied x (stepOf (q .program) n .left .relation) (appliedOf x (stepOf (q .program) n .left .relation) + 1)
+  pub end : y ≡ withApplied x (stepOf (q .program) n .left .relation)
   pub marked : after ≡ reducedBy (q .envelope) words (bodyOf m) (stepOf (q .program) n .left) marks
 
 module _ (q : Papers) (x : End) (words marks m : List ℕ) (n : ℕ) where
@@ -60,7 +62,7 @@ module _ (q : Papers) (x : End) (words marks m : List ℕ) (n : ℕ) where
   abbrev pub stepEffect : Marked
   stepEffect =
       record {
-        end = withApplied x relation (appliedOf x relation + 1);
+        end = withApplied x relation;
         marks = reducedBy (q .envelope) words (bodyOf m) (stepOf (q .program) n .left) marks;
       }
 
@@ -85,6 +87,11 @@ module _ (q : Papers) (x : End) (words marks m : List ℕ) (n : ℕ) where
         end = ap (λ (k : Marked). k .end) (sym same);
         marked = ap (λ (k : Marked). k .marks) (sym same);
       }
+
+-- an empty value message removes every row
+pub none-kept : (q : Papers) (x : End) (words marks m : List ℕ) (n : ℕ) (y : End) (after : List ℕ) → StepTaken q x words marks m n y after
+    → bodyOf m ≡ [] → (i : ℕ) → keptAt (q .envelope) words after (stepOf (q .program) n .left .relation) i ≡ false
+none-kept q x words marks m n y after t empty i = rw (t .marked, empty) (none-left (q .envelope) (stepOf (q .program) n .left) words marks i)
 
 -- ---- the rows of a relation
 

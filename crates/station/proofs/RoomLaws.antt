@@ -19,12 +19,12 @@ use Rattle.contents.specs.Parts.{relationCount, columnsIn}
 use Rattle.contents.specs.Kept.{kept, keptColumns}
 use Rattle.contents.specs.declared.envelope.Envelope.{Envelope}
 use Rattle.entries.specs.Places.{place}
-use Rattle.semijoin.specs.Offsets.{countIn, firstWord}
-use Rattle.semijoin.specs.Shape.{shaped}
+use Rattle.tables.specs.Offsets.{countIn, firstWord}
+use Rattle.tables.specs.Shape.{shaped}
 use Rattle.semijoin.specs.Promise.{keptAt, SameRows}
-use Rattle.semijoin.proofs.SumLaws.{sum-none, sum-below}
-use Rattle.semijoin.proofs.OffsetLaws.{first-none, first-more}
-use Rattle.semijoin.proofs.ShapeLaws.{shaped-shape}
+use Rattle.tables.proofs.SumLaws.{sum-none, sum-below}
+use Rattle.tables.proofs.OffsetLaws.{first-none, first-more}
+use Rattle.tables.proofs.ShapeLaws.{shaped-shape}
 use Rattle.semijoin.proofs.PromiseLaws.{promise}
 use Rattle.station.specs.Ends.{hasArrived}
 use Rattle.station.specs.Messages.{frontLength, rowMessage}

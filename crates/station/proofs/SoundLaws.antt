@@ -24,9 +24,9 @@ use Rattle.papers.specs.Checks.{papersOf}
 use Rattle.papers.specs.declared.programs.Program.{Program}
 use Rattle.papers.specs.declared.checks.Papers.{Papers}
 use Rattle.papers.proofs.CheckLaws.{papers-complete}
-use Rattle.semijoin.specs.Offsets.{rowCount}
-use Rattle.semijoin.specs.Shape.{shaped, marksTests}
-use Rattle.semijoin.proofs.JudgedLaws.{marks-pass}
+use Rattle.tables.specs.Offsets.{rowCount}
+use Rattle.tables.specs.Shape.{shaped, marksTests}
+use Rattle.tables.proofs.JudgedLaws.{marks-pass}
 use Rattle.station.specs.Reducing.{stepCount, stepOf, reduces, reducing, placeOf}
 use Rattle.station.specs.Ends.{appliedOf, overAt, overApplied, soundEnd, usable, papersIn, Sound}
 use Rattle.station.specs.declared.ends.End.{End}

@@ -18,7 +18,7 @@ use Rattle.semijoin.proofs.PromiseLaws.{promise}
 use Rattle.station.specs.Reducing.{stepCount, stepOf, placeOf}
 use Rattle.station.specs.Ends.{appliedOf, usable, papersIn, Sound}
 use Rattle.station.specs.Messages.{bodyOf}
-use Rattle.station.specs.Receiving.{Held, withApplied, withArrived, receiveWith, receiveOf}
+use Rattle.station.specs.Receiving.{Held, appliedTo, withApplied, withArrived, receiveWith, receiveOf}
 use Rattle.station.specs.declared.ends.End.{End}
 use Rattle.station.proofs.EndLaws.{here-below}
 use Rattle.station.proofs.SoundLaws.{place-less, own-papers}
@@ -34,7 +34,7 @@ pub record Stays (x : End) (marks store : List ℕ) (h : Held) : Type 0 where
 
 module _ (x : End) (words marks store m : List ℕ) where
   step-stays : (n : ℕ) (h : Held) → StepTaken (papersIn x) x words marks m n (h .end) (h .marks) → h .store ≡ store → Stays x marks store h
-  unfolding withApplied
+  unfolding withApplied appliedTo
   step-stays n h t s =
       record {
         papers = ap papersIn (t .end);
@@ -76,7 +76,7 @@ module _ (x : End) (words marks store m : List ℕ) where
         go (no d) = rw (getD-set-other (x .applied) own r (appliedOf x own + 1) 0 d) (sound .counts r k)
 
     step-sound : (n : ℕ) (h : Held) → StepTaken (papersIn x) x words marks m n (h .end) (h .marks) → h .store ≡ store → Sound (h .end) (length (h .store))
-    unfolding withApplied
+    unfolding withApplied appliedTo
     step-sound n h t s =
         let own = stepOf (x .program) n .left .relation in
         rw (t .end, s)

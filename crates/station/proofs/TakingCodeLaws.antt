@@ -35,9 +35,9 @@ use Rattle.semijoin.proofs.CallLaws.{reduce-falling, reduce-rows, reduce-marks,
 use Rattle.tables.proofs.RisingLaws.{rising-exact}
 use Rattle.station.specs.Reducing.{stepCount, stepOf, placeOf}
 use Rattle.station.specs.Calls.{leaves}
-use Rattle.station.specs.Ends.{Marked, Usable, appliedOf}
+use Rattle.station.specs.Ends.{Marked, Usable}
 use Rattle.station.specs.Messages.{counted, soundValues}
-use Rattle.station.specs.Receiving.{Stored, withApplied, withArrived, valuesTaken, rowsTaken, refusedBy, shownReceived}
+use Rattle.station.specs.Receiving.{Stored, appliedTo, withApplied, withArrived, valuesTaken, rowsTaken, refusedBy, shownReceived}
 use Rattle.station.specs.declared.ends.End.{End}
 use Rattle.station.specs.declared.receiving.Received.{Received}
 use Rattle.station.proofs.ReducingLaws.{place-most}
@@ -81,8 +81,8 @@ pub applied-is : (x : End) (r n : ℕ)
       arrived = x .arrived;
       used = x .used;
     }
-    ≡ withApplied x r n
-unfolding withApplied
+    ≡ appliedTo x r n
+unfolding appliedTo
 applied-is x r n = refl
 
 pub arrived-is : (x : End) (r n : ℕ)
@@ -224,16 +224,16 @@ module _ (q : Papers) (x : End) (words marks m : List ℕ) (n : ℕ) (u : Usable
             reduce-falls (q .envelope) words (u .shape) marks (u .room) (s .left) here by removed y after g k i p o in
             rw (w, a, v, stays) (takes-bad notSound 0 (rw (← e, ← f, t, sound-by, ← body, falls)))
 
-        pub values-applied : (v : ℕ) → y ≡ r.Removed v → (a : End) → a ≡ withApplied x (s .left .relation) (done + 1)
+        pub values-applied : (v : ℕ) → y ≡ r.Removed v → (a : End) → a ≡ appliedTo x (s .left .relation) (done + 1)
             → Takes (record { verdict = Taken; end = a }) after
-        unfolding valuesTaken
+        unfolding valuesTaken withApplied
         values-applied v o a w =
             let (rises, marked) =
             reduce-rises (q .envelope) words (u .shape) marks (u .room) (s .left) here by removed y after g k v o in
             let found
             : outcome
             ≡ good
-            (record { end = withApplied x (s .left .relation) (appliedOf x (s .left .relation) + 1); marks = reducedBy (q .envelope) words (drop 3 m) (s .left) marks })
+            (record { end = withApplied x (s .left .relation); marks = reducedBy (q .envelope) words (drop 3 m) (s .left) marks })
             0 =
             rw (← e, ← f, t, sound-by, ← body, rises, ← i, ← j, le-ltb place done (omega arith), le-ltb done place (omega arith)) in (
               shown-good (λ (s : Marked). s .end) x outcome _ 0 found a (w ∙ rw j),

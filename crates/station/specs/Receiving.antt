@@ -37,9 +37,9 @@ pub record Held : Type 0 where
   pub marks : List ℕ
   pub store : List ℕ
 
--- so many steps of a relation applied; the row message of a relation arrived, of so many words
-unfoldable pub withApplied : End → ℕ → ℕ → End
-withApplied x r n =
+-- so many steps of a relation applied; one more; the row message of a relation arrived, of so many words
+unfoldable pub appliedTo : End → ℕ → ℕ → End
+appliedTo x r n =
     record {
       envelope = x .envelope;
       program = x .program;
@@ -49,6 +49,9 @@ withApplied x r n =
       arrived = x .arrived;
       used = x .used;
     }
+
+unfoldable pub withApplied : End → ℕ → End
+withApplied x r = appliedTo x r (appliedOf x r + 1)
 
 unfoldable pub withArrived : End → ℕ → ℕ → End
 withArrived x r words =
@@ -73,7 +76,7 @@ valuesTaken q x words marks m n =
     ∷ test (ltb place (appliedOf x (a .relation))) alreadyTaken 0
     ∷ test (ltb (appliedOf x (a .relation)) place) stepMissing 0
     ∷ [])
-    (good (record { end = withApplied x (a .relation) (appliedOf x (a .relation) + 1); marks = reducedBy (q .envelope) words (bodyOf m) a marks }) 0)
+    (good (record { end = withApplied x (a .relation); marks = reducedBy (q .envelope) words (bodyOf m) a marks }) 0)
 
 -- the rows of relation r
 unfoldable pub rowsTaken : Papers → End → List ℕ → List ℕ → ℕ → Outcome Stored

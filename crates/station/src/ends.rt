@@ -23,7 +23,7 @@ pub struct End {
 }
 
 // What stands beside a refused opening.
-pub(crate) fn no_end() -> End
+pub fn no_end() -> End
     ensures { λ r. ⌜ r ≡ noEnd ⌝ }
 {
     let envelope = contents::envelope::no_envelope();

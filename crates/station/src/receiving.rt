@@ -21,7 +21,7 @@ ghost use Rattle.station.specs.Messages.{frontLength, bodyOf};
 ghost use Rattle.station.specs.Receiving.{
   Stored,
   Held,
-  withApplied,
+  appliedTo,
   withArrived,
   valuesTaken,
   rowsTaken,
@@ -49,9 +49,9 @@ fn refused(end: End, number: u8, position: usize) -> Received
 }
 
 // So many steps of a relation applied.
-fn with_applied(end: End, relation: u8, count: u32) -> End
+fn applied_to(end: End, relation: u8, count: u32) -> End
     requires { ⌜ relation < 8 ⌝ }
-    ensures { λ r. ⌜ r ≡ withApplied end relation count ⌝ }
+    ensures { λ r. ⌜ r ≡ appliedTo end relation count ⌝ }
 {
     let envelope = end.envelope;
     let program = end.program;
@@ -144,7 +144,7 @@ fn take_values(
     match reduced {
         Reduced::Refused { number, position } => refused(end, number, position),
         Reduced::Removed(removed) => {
-            let after = with_applied(end, left.relation, done + 1);
+            let after = applied_to(end, left.relation, done + 1);
             Received {
                 verdict: Verdict::Taken,
                 end: after,

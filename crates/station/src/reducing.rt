@@ -8,7 +8,7 @@ ghost use Rattle.papers.specs.Programs.{noStep};
 ghost use Rattle.station.specs.Reducing.{stepCount, stepOf, reducing, placeOf, missingIn, missingOf};
 
 // The number of the first step that is missing.
-pub enum Missing {
+pub(crate) enum Missing {
     First(usize),
     None,
 }
@@ -76,7 +76,7 @@ fn place_in(steps: [Step; 156], count: u8, relation: u8, n: usize) -> u32
 }
 
 // How many of the first n steps reduce a relation.
-pub fn place_of(program: Program, relation: u8, n: usize) -> u32
+pub(crate) fn place_of(program: Program, relation: u8, n: usize) -> u32
     ensures { λ r. ⌜ r ≡ placeOf program relation n ⌝ }
 {
     let steps = program.steps;
@@ -104,7 +104,7 @@ fn missing_in(steps: [Step; 156], count: u8, relation: u8, applied: u32, n: usiz
 }
 
 // With so many steps of a relation applied, the first missing one of those below n.
-pub fn missing_of(program: Program, relation: u8, applied: u32, n: usize) -> Missing
+pub(crate) fn missing_of(program: Program, relation: u8, applied: u32, n: usize) -> Missing
     ensures { λ r. ⌜ r ≡ missingOf program relation applied n ⌝ }
 {
     let steps = program.steps;

@@ -62,11 +62,11 @@ refused-requires-4 c κs = search needs
 enum-known-reduced-2 : tie.Need-enum-known-reduced-2
 enum-known-reduced-2 c = search needs
 
-add-with-applied : tie.Need-add-with-applied
-add-with-applied c = omega (arith, values-more _ (c .before .before .before .before .before .before .before .before .before .before .before .before .before .before .before .before .before .before .before .before .before .before .before .pre .0 .papers) _ _ (c .before .before .before .before .before .before .before .before .before .before .before .before .before .before .before .before .before .before .before .before .before .before .before .pre .1) _ _ (c .before .before .before .before .before .before .before .before .before .before .place-of .ensures) (c .before .before .before .before .before .before .before .before .if3 .left))
+add-applied-to : tie.Need-add-applied-to
+add-applied-to c = omega (arith, values-more _ (c .before .before .before .before .before .before .before .before .before .before .before .before .before .before .before .before .before .before .before .before .before .before .before .pre .0 .papers) _ _ (c .before .before .before .before .before .before .before .before .before .before .before .before .before .before .before .before .before .before .before .before .before .before .before .pre .1) _ _ (c .before .before .before .before .before .before .before .before .before .before .place-of .ensures) (c .before .before .before .before .before .before .before .before .if3 .left))
 
-with-applied-requires : tie.Need-with-applied-requires
-with-applied-requires c κs = values-eight _ _ _ _ (c .before .before .before .before .before .before .before .before .before .before .before .before .before .before .is-at .ensures) (c .before .before .before .before .before .before .before .before .before .before .before .before .before .if1 .left)
+applied-to-requires : tie.Need-applied-to-requires
+applied-to-requires c κs = values-eight _ _ _ _ (c .before .before .before .before .before .before .before .before .before .before .before .before .before .before .is-at .ensures) (c .before .before .before .before .before .before .before .before .before .before .before .before .before .if1 .left)
 
 same-length : tie.Need-same-length
 same-length c = search needs
@@ -78,7 +78,7 @@ same-length-2 : tie.Need-same-length-2
 same-length-2 c = search needs
 
 returns-5 : tie.Need-returns-5
-returns-5 c = values-applied _ _ _ _ _ _ (c .before .before .before .before .before .before .before .before .before .before .before .before .before .before .before .before .before .before .before .before .before .before .before .before .pre .0) (c .before .before .before .before .before .before .before .before .before .before .before .before .before .before .before .before .before .before .before .before .before .before .before .before .pre .1) _ (c .before .before .before .before .before .before .before .before .before .before .before .before .before .before .before .before .before .step-of .ensures) _ (c .before .before .before .before .before .before .before .before .before .before .before .before .before .before .before .is-at .ensures) (c .before .before .before .before .before .before .before .before .before .before .before .before .before .before .if1 .left) _ (c .before .before .before .before .before .before .before .before .before .before .before .before .before .is-counted .ensures) (c .before .before .before .before .before .before .before .before .before .before .before .before .if2 .left) _ _ (c .before .before .before .before .before .before .before .before .before .before .before .place-of .ensures) (c .before .before .before .before .before .before .before .before .before .before .applied-of .ensures) (c .before .before .before .before .before .before .before .before .before .if3 .left) _ (body-part (c .before .before .before .before .before .before .before .before .before .before .before .before .before .before .before .before .before .before .before .before .before .before .before .before .args .message .now)) _ _ _ (c .before .before .before .before .before .before .reduce-by .ensures .0) (c .before .before .before .before .before .before .reduce-by .ensures .1) _ (c .before .before .reduced2 .given .1) _ (c .with-applied .ensures)
+returns-5 c = values-applied _ _ _ _ _ _ (c .before .before .before .before .before .before .before .before .before .before .before .before .before .before .before .before .before .before .before .before .before .before .before .before .pre .0) (c .before .before .before .before .before .before .before .before .before .before .before .before .before .before .before .before .before .before .before .before .before .before .before .before .pre .1) _ (c .before .before .before .before .before .before .before .before .before .before .before .before .before .before .before .before .before .step-of .ensures) _ (c .before .before .before .before .before .before .before .before .before .before .before .before .before .before .before .is-at .ensures) (c .before .before .before .before .before .before .before .before .before .before .before .before .before .before .if1 .left) _ (c .before .before .before .before .before .before .before .before .before .before .before .before .before .is-counted .ensures) (c .before .before .before .before .before .before .before .before .before .before .before .before .if2 .left) _ _ (c .before .before .before .before .before .before .before .before .before .before .before .place-of .ensures) (c .before .before .before .before .before .before .before .before .before .before .applied-of .ensures) (c .before .before .before .before .before .before .before .before .before .if3 .left) _ (body-part (c .before .before .before .before .before .before .before .before .before .before .before .before .before .before .before .before .before .before .before .before .before .before .before .before .args .message .now)) _ _ _ (c .before .before .before .before .before .before .reduce-by .ensures .0) (c .before .before .before .before .before .before .reduce-by .ensures .1) _ (c .before .before .reduced2 .given .1) _ (c .applied-to .ensures)
 
 pub take-values-spec : {M : Type 1} → statement M
 take-values-spec =
@@ -103,8 +103,8 @@ take-values-spec =
     enum-known-reduced
     refused-requires-4
     enum-known-reduced-2
-    add-with-applied
-    with-applied-requires
+    add-applied-to
+    applied-to-requires
     same-length
     returns-4
     same-length-2
