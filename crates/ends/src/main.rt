@@ -240,10 +240,48 @@ fn makings(end: End, last: End) {
     show::print_made(b"make rows that do not fit", made, &message);
 }
 
+fn made_values(what: &[u8], end: End, tables: &[u32], marks: &[u8]) {
+    let mut message = [9u32; 3];
+    let made = station::making::make_values(end, tables, marks, 1, &mut message);
+    show::print_made(what, made, &message);
+}
+
+fn made_rows(what: &[u8], end: End, tables: &[u32], marks: &[u8]) {
+    let mut message = [9u32; 3];
+    let made = station::making::make_rows(end, tables, marks, 0, &mut message);
+    show::print_made(what, made, &message);
+}
+
+fn lent(last: End) {
+    let here = HERE;
+    let short = [2u32, 0, 1];
+    let marks = [0u8, 1];
+    let mut many = last;
+    many.applied = [3u32; 8];
+    made_values(b"make step 1 on tables cut short", last, &short, &marks);
+    made_values(b"make step 1 with one mark", last, &here, &[1u8]);
+    made_values(b"make values that do not fit", last, &here, &marks);
+    made_values(
+        b"make step 1 with more applied than there are",
+        many,
+        &here,
+        &marks,
+    );
+    made_rows(b"make rows on tables cut short", last, &short, &marks);
+    made_rows(b"make rows with one mark", last, &here, &[1u8]);
+    made_rows(
+        b"make rows with more applied than there are",
+        many,
+        &here,
+        &marks,
+    );
+}
+
 fn main() {
     openings();
     let end = opened();
     let last = receivings(end);
     unsound();
     makings(end, last);
+    lent(last);
 }

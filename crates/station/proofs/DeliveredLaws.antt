@@ -35,7 +35,7 @@ use Rattle.station.proofs.EndLaws.{here-below}
 use Rattle.station.proofs.MessageLaws.{about-step, about-rows, value-run, value-second, row-run, row-second, value-front, row-front}
 use Rattle.station.proofs.MadeLaws.{values-sound, rows-counted}
 use Rattle.station.proofs.MakingLaws.{ValuesMade, RowsMade}
-use Rattle.station.proofs.ReceivedLaws.{stepTests, stepEffect, step-judged, rowsTests, rowsEffect, rows-judged}
+use Rattle.station.proofs.ReceivingLaws.{stepTests, stepEffect, step-judged, rowsTests, rowsEffect, rows-judged}
 
 module _ (q : Papers) (y : End) (others those store m : List ℕ) where
   -- a message of this run, by what it speaks of

@@ -1,4 +1,6 @@
--- The laws of the definitions in specs/, file by file under the same names.
+-- The laws of the definitions in specs/, file by file under the same names; those that only returns of functions cite have Code in
+-- their names. Sound and Stays are of ends that calls hand on, Made and Delivered of what is made at one end and comes to
+-- another, Room of the store.
 pub mod CountingLaws
 pub mod ReducingLaws
 pub mod MessageLaws
@@ -13,9 +15,9 @@ pub mod RowCodeLaws
 pub mod RowMessageCodeLaws
 pub mod MadeLaws
 pub mod SoundLaws
-pub mod OpenedLaws
+pub mod OpeningLaws
 pub mod MakingLaws
-pub mod ReceivedLaws
+pub mod ReceivingLaws
 pub mod DeliveredLaws
 pub mod StaysLaws
 pub mod RoomLaws

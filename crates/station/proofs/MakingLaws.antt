@@ -19,9 +19,11 @@ use Rattle.contents.specs.Sites.{isAt}
 use Rattle.papers.specs.Checks.{papersOf}
 use Rattle.papers.specs.declared.programs.Program.{Program}
 use Rattle.papers.specs.declared.checks.Papers.{Papers}
+use Rattle.tables.specs.Offsets.{rowCount}
+use Rattle.tables.specs.Shape.{shaped}
 use Rattle.tables.specs.Values.{risingValues}
 use Rattle.station.specs.Reducing.{stepCount, stepOf, placeOf, isMissing, firstMissing}
-use Rattle.station.specs.Ends.{appliedOf, usable, Usable}
+use Rattle.station.specs.Ends.{appliedOf, usable, Usable, papersIn, Sound}
 use Rattle.station.specs.Messages.{valueMessage, rowMessage}
 use Rattle.station.specs.Making.{sendTests, fitted, valuesWith, makeValuesOf, sentRows, rowsWith, makeRowsOf, shownMade, madeIn}
 use Rattle.station.specs.declared.ends.End.{End}
@@ -29,7 +31,7 @@ use Rattle.station.specs.declared.making.Made.{Made}
 use Rattle.station.specs.declared.making.Made.the-variants.{Length, Refused}
 use Rattle.station.proofs.CallLaws.{each-passes, leaves-refused}
 use Rattle.station.proofs.EndLaws.{usable-is}
-use Rattle.station.proofs.SoundLaws.{firstNumbers, ToldFirst, call-number}
+use Rattle.station.proofs.SoundLaws.{ToldFirst, call-number, sound-call}
 
 -- ---- 14, 12, 11, of any message
 
@@ -153,3 +155,15 @@ module _ (out : List ℕ) (o : Outcome (List ℕ)) (n u : ℕ) (h : o ≡ bad n 
   pub made-answer : shownMade o ≡ Refused n u
   unfolding shownMade
   made-answer = ap shownMade h
+
+-- ---- at a sound end, with tables of the shape and marks enough, it is by the papers as they stand
+
+module _ (x : End) (held : ℕ) (s : Sound x held) (words marks : List ℕ) (shape : shaped (x .envelope) words ≡ true)
+    (enough : rowCount (x .envelope) words ≤ length marks) where
+  pub sound-values : (n room : ℕ) → makeValuesOf x words marks n room ≡ valuesWith (papersIn x) x words marks n room
+  unfolding makeValuesOf
+  sound-values n room = sound-call x held s words (length marks) shape enough (λ q. valuesWith q x words marks n room)
+
+  pub sound-rows : (r room : ℕ) → makeRowsOf x words marks r room ≡ rowsWith (papersIn x) x words marks r room
+  unfolding makeRowsOf
+  sound-rows r room = sound-call x held s words (length marks) shape enough (λ q. rowsWith q x words marks r room)

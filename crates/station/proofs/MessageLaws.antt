@@ -142,3 +142,30 @@ module _ (run r : ℕ) (rows : Table) where
     pub row-rows : rowsOf k (rowMessage run r rows) ≡ rows
     unfolding rowMessage rowsOf
     row-rows = rows-back k rows w
+
+-- ---- so what is made is understood as what it was
+
+module _ (steps relations run : ℕ) where
+  pub value-understood : (n : ℕ) (values : List ℕ) → n < steps → length values ≤ 4096 → isRising values ≡ true
+      → (runOf (valueMessage run n values) ≡ run)
+      × (aboutOf steps relations (secondOf (valueMessage run n values)) ≡ Step n)
+      × (soundValues (valueMessage run n values) ≡ true)
+      × (bodyOf (valueMessage run n values) ≡ values)
+  value-understood n values h few rises = (
+    value-run run n values,
+    ap (aboutOf steps relations) (value-second run n values) ∙ about-step steps relations n h,
+    value-sound run n values few rises,
+    value-body run n values,
+  )
+
+  pub row-understood : (r k : ℕ) (rows : Table) → steps ≤ 256 → r < relations → Wide k rows → length rows ≤ 4096
+      → (runOf (rowMessage run r rows) ≡ run)
+      × (aboutOf steps relations (secondOf (rowMessage run r rows)) ≡ Rows r)
+      × (counted k (rowMessage run r rows) ≡ true)
+      × (rowsOf k (rowMessage run r rows) ≡ rows)
+  row-understood r k rows few-steps h wide few = (
+    row-run run r rows,
+    ap (aboutOf steps relations) (row-second run r rows) ∙ about-rows steps relations r few-steps h,
+    row-counted run r rows k wide few,
+    row-rows run r rows k wide,
+  )

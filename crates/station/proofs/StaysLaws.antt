@@ -14,6 +14,8 @@ use Rattle.ground.specs.Outcome.Outcome.{good}
 use Rattle.ground.proofs.OutcomeLaws.{next-good}
 use Rattle.contents.specs.Parts.{relationCount}
 use Rattle.papers.specs.declared.checks.Papers.{Papers}
+use Rattle.tables.specs.Offsets.{rowCount}
+use Rattle.tables.specs.Shape.{shaped}
 use Rattle.semijoin.proofs.PromiseLaws.{promise}
 use Rattle.station.specs.Reducing.{stepCount, stepOf, placeOf}
 use Rattle.station.specs.Ends.{appliedOf, usable, papersIn, Sound}
@@ -21,8 +23,8 @@ use Rattle.station.specs.Messages.{bodyOf}
 use Rattle.station.specs.Receiving.{Held, appliedTo, withApplied, withArrived, receiveWith, receiveOf}
 use Rattle.station.specs.declared.ends.End.{End}
 use Rattle.station.proofs.EndLaws.{here-below}
-use Rattle.station.proofs.SoundLaws.{place-less, own-papers}
-use Rattle.station.proofs.ReceivedLaws.{StepTaken, RowsTaken, Taken, with-facts}
+use Rattle.station.proofs.SoundLaws.{place-less, own-papers, sound-call}
+use Rattle.station.proofs.ReceivingLaws.{StepTaken, RowsTaken, Taken, with-facts}
 
 -- an end afterwards, and what was lent
 pub record Stays (x : End) (marks store : List ℕ) (h : Held) : Type 0 where
@@ -110,3 +112,10 @@ module _ (x : End) (words marks store m : List ℕ) where
         let own : q ≡ papersIn x = own-papers x (length store) sound words (length marks) q at fine in
         let mine : receiveWith (papersIn x) x words marks store m ≡ good h u = rw own at rest in
         by-kind h (with-facts (papersIn x) x words marks store m h u mine .2)
+
+    -- with tables of the shape and marks enough it is by the papers as they stand
+    pub sound-receives : shaped (x .envelope) words ≡ true → rowCount (x .envelope) words ≤ length marks
+        → receiveOf x words marks store m ≡ receiveWith (papersIn x) x words marks store m
+    unfolding receiveOf
+    sound-receives shape enough =
+        sound-call x (length store) sound words (length marks) shape enough (λ q. receiveWith q x words marks store m)

@@ -121,3 +121,9 @@ start-sound q site run room g =
       eight = (refl, refl);
       held = omega arith;
     }
+
+pub opened-sound : (e : Envelope) (p : Program) (site run : ℕ) (words marks : List ℕ) (room : ℕ) (s : Marked) (u : ℕ)
+    → openOf e p site run words marks ≡ good s u → Sound (s .end) room
+opened-sound e p site run words marks room s u h =
+    let (q, _, _, by) = open-facts site run words marks e p s u h in
+    rw (by .start) (start-sound q site run room (by .papers))
