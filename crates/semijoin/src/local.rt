@@ -9,29 +9,27 @@ use tables::offsets::Extent;
 ghost use mathlib.Core.Path.{_≡_};
 ghost use mathlib.Core.Bool.{true, false, not};
 ghost use mathlib.Core.List.{[], map};
-ghost use Prim.Native.Nat.{_+_, _*_, _<_, _≤_};
+ghost use Prim.Native.Nat.{_+_, _<_, _≤_};
 ghost use lib.ListN.{length, getD, take};
 ghost use lib.Seq.{sets};
 ghost use lib.Dec.{eqb};
 ghost use Rattle.ground.specs.Lists.{any};
 ghost use Rattle.ground.specs.Outcome.{verdictOf};
 ghost use Rattle.envelopes.specs.Rules.{Within};
-ghost use Rattle.paths.specs.Meaning.{wordIn};
 ghost use Rattle.tables.specs.Offsets.{rowCount, rowsOver};
 ghost use Rattle.tables.specs.Shape.{shaped};
+ghost use Rattle.tables.specs.Rows.{wordOver};
 ghost use Rattle.semijoin.specs.Local.{openedIn, openOutcome, openingMark};
 ghost use Rattle.semijoin.specs.Marks.{marksAfter};
 
 fn breaks_selection(tables: &[u32], extent: Extent, row: usize, selected: Selected) -> bool
-    requires { ⌜ (row < extent .rows) × (extent .word + extent .rows * extent .columns ≤ length (now tables)) ⌝ }
-    ensures { λ r. ⌜ r ≡ not (eqb (wordIn (getD (rowsOver extent (now (tables .entry))) row []) (selected .column)) (selected .value)) ⌝ }
+    ensures { λ r. ⌜ r ≡ not (eqb (wordOver extent (now (tables .entry)) row (selected .column)) (selected .value)) ⌝ }
 {
     tables::rows::word_at(tables, extent, row, selected.column) != selected.value
 }
 
 fn breaks_equality(tables: &[u32], extent: Extent, row: usize, equal: Equal) -> bool
-    requires { ⌜ (row < extent .rows) × (extent .word + extent .rows * extent .columns ≤ length (now tables)) ⌝ }
-    ensures { λ r. ⌜ r ≡ not (eqb (wordIn (getD (rowsOver extent (now (tables .entry))) row []) (equal .left)) (wordIn (getD (rowsOver extent (now (tables .entry))) row []) (equal .right))) ⌝ }
+    ensures { λ r. ⌜ r ≡ not (eqb (wordOver extent (now (tables .entry)) row (equal .left)) (wordOver extent (now (tables .entry)) row (equal .right))) ⌝ }
 {
     let left = tables::rows::word_at(tables, extent, row, equal.left);
     let right = tables::rows::word_at(tables, extent, row, equal.right);
@@ -45,8 +43,7 @@ fn breaks_some_selection(
     all: [Selected; 96],
     n: u8,
 ) -> bool
-    requires { ⌜ (row < extent .rows) × (extent .word + extent .rows * extent .columns ≤ length (now tables)) ⌝ }
-    ensures { λ r. ⌜ r ≡ any (λ (s : Selected). not (eqb (wordIn (getD (rowsOver extent (now (tables .entry))) row []) (s .column)) (s .value))) (take n all) ⌝ }
+    ensures { λ r. ⌜ r ≡ any (λ (s : Selected). not (eqb (wordOver extent (now (tables .entry)) row (s .column)) (s .value))) (take n all) ⌝ }
 {
     let mut i: usize = 0;
     let end = ground::used::in_use(96, n);
@@ -61,8 +58,7 @@ fn breaks_some_selection(
 }
 
 fn breaks_some_equality(tables: &[u32], extent: Extent, row: usize, all: [Equal; 64], n: u8) -> bool
-    requires { ⌜ (row < extent .rows) × (extent .word + extent .rows * extent .columns ≤ length (now tables)) ⌝ }
-    ensures { λ r. ⌜ r ≡ any (λ (s : Equal). not (eqb (wordIn (getD (rowsOver extent (now (tables .entry))) row []) (s .left)) (wordIn (getD (rowsOver extent (now (tables .entry))) row []) (s .right)))) (take n all) ⌝ }
+    ensures { λ r. ⌜ r ≡ any (λ (s : Equal). not (eqb (wordOver extent (now (tables .entry)) row (s .left)) (wordOver extent (now (tables .entry)) row (s .right)))) (take n all) ⌝ }
 {
     let mut i: usize = 0;
     let end = ground::used::in_use(64, n);
@@ -85,7 +81,6 @@ fn opening_mark(
     selections: Selections,
     equalities: Equalities,
 ) -> u8
-    requires { ⌜ (row < extent .rows) × (extent .word + extent .rows * extent .columns ≤ length (now tables)) ⌝ }
     ensures { λ r. ⌜ r ≡ openingMark here (take (selections .count) (selections .all)) (take (equalities .count) (equalities .all)) (getD (rowsOver extent (now (tables .entry))) row []) ⌝ }
 {
     if !here {
@@ -111,7 +106,7 @@ fn open_rows(
     equalities: Equalities,
     marks: &mut [u8],
 )
-    requires { ⌜ (extent .word + extent .rows * extent .columns ≤ length (now tables)) × (extent .mark + extent .rows ≤ length (now marks)) ⌝ }
+    requires { ⌜ extent .mark + extent .rows ≤ length (now marks) ⌝ }
     ensures { λ r. ⌜ now (marks .exit) ≡ sets (now (marks .entry)) (extent .mark) (map (openingMark here (take (selections .count) (selections .all)) (take (equalities .count) (equalities .all))) (rowsOver extent (now (tables .entry)))) ⌝ }
 {
     let mut row: usize = 0;

@@ -2,7 +2,7 @@ use Rattle.contents.specs.Parts.{relationCount}
 use Prim.Native.Nat.{_<_, _-_}
 use mathlib.Core.Bool.{false}
 use lib.ListN.{getD}
-use Rattle.tables.proofs.ShapeLaws.{words-there, marks-there}
+use Rattle.tables.proofs.ShapeLaws.{marks-there}
 use Rattle.semijoin.proofs.LocalCodeLaws.{OpeningAll, opening-all-start, opening-all-more, opening-all-done}
 use borrow.Author.Needs.{needs}
 use native.Mathlib.Omega.{arith}
@@ -65,7 +65,7 @@ open-rows-requires c κs =
     let s = c .before .before .before .before .before .before .before .before .before .before in
     let h : c .before .before .before .before .before .loop .relation < relationCount (s .args .envelope) = omega arith in
     let x = c .before .before .before .extent-of .ensures in
-    (words-there (s .args .envelope) (s .args .tables .now) _ _ x h (s .pre .1), marks-there (s .args .envelope) (s .args .tables .now) _ _ x h _ (omega (arith, c .before .before .before .before .before .loop .inv .long)))
+    marks-there (s .args .envelope) (s .args .tables .now) _ _ x h _ (omega (arith, c .before .before .before .before .before .loop .inv .long))
 
 -- src/local.rt:143:9
 add-relation : tie.Need-add-relation Inv-loop μ-loop
