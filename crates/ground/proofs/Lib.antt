@@ -8,7 +8,9 @@ pub mod TestLaws
 pub mod ListLaws
 pub mod EveryLaws
 pub mod NumbersLaws
+pub mod SumLaws
 pub mod PuttingLaws
+pub mod ListPartLaws
 pub mod MappingLaws
 pub mod CollectingLaws
 pub mod CombinationLaws
@@ -17,6 +19,7 @@ pub mod OrderLaws
 pub mod LeastLaws
 pub mod ChoiceLaws
 pub mod UniqueLaws
+pub mod FigureLaws
 pub mod UsedLaws
 pub mod WritingLaws
 pub mod ByteLaws

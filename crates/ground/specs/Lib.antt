@@ -1,5 +1,5 @@
 -- What every definition above is written with: tests, lists, outcomes of reading, numbers as bytes, rising lists, lists
--- in order, the first of greatest gain.
+-- in order, the first of greatest gain; and what a figure is.
 pub mod Tests
 pub mod Lists
 pub mod Outcome
@@ -9,3 +9,4 @@ pub mod Searching
 pub mod Rising
 pub mod Order
 pub mod Choice
+pub mod Figures

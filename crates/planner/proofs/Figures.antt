@@ -1,10 +1,11 @@
 -- The figures of 01 that are estimates: one list of what the definitions give and what the paper says, under one statement.
 -- E1 is the envelope of Figure 3.1: SUPPLIER at site 1, SUPPLY at 2, PART at 3; a dash is read as distinct 1; every column
 -- but S# and P# has a domain of its own of size 5000; MA is 1.
-use mathlib.Core.Path.{_≡_, refl}
-use mathlib.Core.List.{List, [], _∷_, _++_, map}
+use mathlib.Core.Path.{refl}
+use mathlib.Core.List.{List, [], _∷_, _++_}
 use Prim.Native.Nat.{ℕ}
 use lib.ListN.{take, replicate}
+use Rattle.ground.specs.Figures.{Figure, figure, Hold}
 use Rattle.ground.specs.Lists.{each, padded, numbersFrom}
 use Rattle.ground.specs.Searching.{firstFrom}
 use Rattle.ground.specs.Rising.{insert, rising}
@@ -73,13 +74,6 @@ shown p =
     each (λ (l : Line). numbers (l .step) ++ l .benefit ∷ l .cost ∷ []) (take (p .count) (p .lines))
     ++ p .site ∷ p .assembly ∷ p .total ∷ p .local ∷ []
 
-pub record Figure : Type 0 where
-  pub got : List ℕ
-  pub want : List ℕ
-
-abbrev figure : List ℕ → List ℕ → Figure
-figure g w = record { got = g; want = w }
-
 abbrev pub figures : List Figure
 figures =
     figure (Y 25 500 10 ∷ Y 1000 100000 500 ∷ []) (10 ∷ 500 ∷ [])
@@ -101,6 +95,6 @@ figures =
     ∷ figure (shown (planFor plainCosts fallen)) (2 ∷ 100 ∷ 100 ∷ 100 ∷ [])
     ∷ []
 
-pub figures-hold : map (λ (f : Figure). f .got) figures ≡ map (λ (f : Figure). f .want) figures
+pub figures-hold : Hold figures
 unfolding padded numbersFrom firstFrom insert rising verdictOf samePlace domainOf sizesOf relationsOf clausesOf targetsOf columnsIn withVersion withSizes withRelations withClauses withTargets siteOf isAt holds names kept keptColumns edges onPath places isPlace legalBy legalSteps constantsOf selectionsBy over Y columnOf domainSize widthOf given shrunk afterSelection rowsAfter countAfter afterStep benefit localProfile plainCosts priced stepCost assemblyAt sameStep siteFor greedySteps dropsAt afterDrops planned linesOf estimated planFor
 figures-hold = refl

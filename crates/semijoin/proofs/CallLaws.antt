@@ -98,7 +98,7 @@ module _ (e : Envelope) (words : List ℕ) (here : ℕ → Bool) (marks : List �
 
 -- a value occurs exactly where tables, marks and column are right and some kept row has it
 module _ (e : Envelope) (a : Place) (words marks : List ℕ) (x : ℕ) where
-  pub occurs-exact : (occursIn e a words marks x ≡ true)
+  pub occurs-exact : (occursIn e words marks a x ≡ true)
       ↔ ((shaped e words ≡ true) × (rowCount e words ≤ length marks) × (isPlace e a ≡ true)
       × ((i : ℕ) × (keptAt e words marks (a .relation) i ≡ true) × (wordOf e words a i ≡ x)))
   unfolding occursIn
@@ -125,52 +125,52 @@ module _ (e : Envelope) (a : Place) (words values marks : List ℕ) where
   reduceTests = test (not (isPlace e a)) notOurs 0 ∷ test (not (isRising values)) notSound 0 ∷ []
 
   -- it refuses by 10, 11, 14, 15, at 0
-  pub reduce-number : (n p : ℕ) → reduceOutcome e a words values marks ≡ bad n p
+  pub reduce-number : (n p : ℕ) → reduceOutcome e words values a marks ≡ bad n p
       → List·Memᴰ n (wrongShape ∷ tooShort ∷ notOurs ∷ notSound ∷ []) × (p ≡ 0)
   unfolding reduceOutcome
   reduce-number n p h =
       refusal-listed (columnTests e a words (length marks) ++ test (not (isRising values)) notSound 0 ∷ []) reduced 0 n p
       (refl, (refl, (refl, (refl, tt)))) h
 
-  pub reduce-shapeless : shaped e words ≡ false → reduceOutcome e a words values marks ≡ bad wrongShape 0
+  pub reduce-shapeless : shaped e words ≡ false → reduceOutcome e words values a marks ≡ bad wrongShape 0
   unfolding reduceOutcome
   reduce-shapeless s = first-shape e words (length marks) reduceTests (good reduced 0) s
 
   module _ (s : shaped e words ≡ true) where
-    pub reduce-unmarked : length marks < rowCount e words → reduceOutcome e a words values marks ≡ bad tooShort 0
+    pub reduce-unmarked : length marks < rowCount e words → reduceOutcome e words values a marks ≡ bad tooShort 0
     unfolding reduceOutcome
     reduce-unmarked h = then-marks e words (length marks) reduceTests (good reduced 0) s h
 
     module _ (h : rowCount e words ≤ length marks) where
-      pub reduce-nowhere : isPlace e a ≡ false → reduceOutcome e a words values marks ≡ bad notOurs 0
+      pub reduce-nowhere : isPlace e a ≡ false → reduceOutcome e words values a marks ≡ bad notOurs 0
       unfolding reduceOutcome
       reduce-nowhere c = then-rest e words (length marks) reduceTests (good reduced 0) s h ∙ rw c
 
       module _ (c : isPlace e a ≡ true) where
-        pub reduce-falling : isRising values ≡ false → reduceOutcome e a words values marks ≡ bad notSound 0
+        pub reduce-falling : isRising values ≡ false → reduceOutcome e words values a marks ≡ bad notSound 0
         unfolding reduceOutcome
         reduce-falling f = then-rest e words (length marks) reduceTests (good reduced 0) s h ∙ rw (c, f)
 
         module _ (rises : Rises 0 values) where
-          pub reduce-taken : reduceOutcome e a words values marks ≡ good (reducedBy e words values a marks) 0
+          pub reduce-taken : reduceOutcome e words values a marks ≡ good (reducedBy e words values a marks) 0
           unfolding reduceOutcome
           reduce-taken = then-rest e words (length marks) reduceTests (good reduced 0) s h ∙ rw (c, rising-exact values .1 rises)
 
-          pub reduce-rows : (n : ℕ) → reducedOf n (reduceOutcome e a words values marks) ≡ r.Removed n
+          pub reduce-rows : (n : ℕ) → reducedOf n (reduceOutcome e words values a marks) ≡ r.Removed n
           unfolding reducedOf
           reduce-rows n = rw reduce-taken
 
-          pub reduce-marks : marksAfter marks (reduceOutcome e a words values marks) ≡ reducedBy e words values a marks
+          pub reduce-marks : marksAfter marks (reduceOutcome e words values a marks) ≡ reducedBy e words values a marks
           unfolding marksAfter
           reduce-marks = rw reduce-taken
 
   -- a refusal, as it is answered
-  module _ (n p : ℕ) (h : reduceOutcome e a words values marks ≡ bad n p) where
-    pub reduce-refused : (m : ℕ) → reducedOf m (reduceOutcome e a words values marks) ≡ r.Refused n p
+  module _ (n p : ℕ) (h : reduceOutcome e words values a marks ≡ bad n p) where
+    pub reduce-refused : (m : ℕ) → reducedOf m (reduceOutcome e words values a marks) ≡ r.Refused n p
     unfolding reducedOf
     reduce-refused m = rw h
 
-    pub reduce-stay : marksAfter marks (reduceOutcome e a words values marks) ≡ marks
+    pub reduce-stay : marksAfter marks (reduceOutcome e words values a marks) ≡ marks
     unfolding marksAfter
     reduce-stay = rw h
 

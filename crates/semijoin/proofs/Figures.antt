@@ -1,8 +1,9 @@
 -- The figures of 01 on tables: one list of what the definitions give and what the paper says, under one statement.
 -- Same day: COUPON (number, date) = (11,20) (12,20) (13,21); WEIGH (number, date, loss) = (11,20,5) (12,20,7) (12,20,7) (14,22,3).
-use mathlib.Core.Path.{_≡_, refl}
-use mathlib.Core.List.{List, [], _∷_, map}
+use mathlib.Core.Path.{refl}
+use mathlib.Core.List.{List, [], _∷_}
 use Prim.Native.Nat.{ℕ}
+use Rattle.ground.specs.Figures.{Figure, figure, Hold}
 use Rattle.ground.specs.Lists.{each, padded, numbersFrom}
 use Rattle.ground.specs.Outcome.{numbered, nextOf}
 use Rattle.ground.specs.Bytes.{littleEnd, bytesOf}
@@ -71,13 +72,6 @@ bytes = 0 ∷ 1 ∷ 2 ∷ 3 ∷ 4 ∷ 5 ∷ 6 ∷ 9 ∷ []
 abbrev words : List Row → List ℕ
 words rows = each (λ (row : Row). row) rows
 
-pub record Figure : Type 0 where
-  pub got : List ℕ
-  pub want : List ℕ
-
-abbrev figure : List ℕ → List ℕ → Figure
-figure g w = record { got = g; want = w }
-
 abbrev pub figures : List Figure
 figures =
     -- joined on number, and on date
@@ -98,6 +92,6 @@ figures =
     ∷ figure (removedBy onDate couponWeigh [] (place 0 1) allKept ∷ []) (3 ∷ [])
     ∷ []
 
-pub figures-hold : map (λ (f : Figure). f .got) figures ≡ map (λ (f : Figure). f .want) figures
+pub figures-hold : Hold figures
 unfolding numbered padded numbersFrom littleEnd bytesOf firstFrom insert rising numberAt numberThat marked markOf versionAt headOf samePlace placeAt placeBytes columnsOf columnAt columnBytes columnsThen relationAt relationBytes domainOf selectionAt joined joinAt clauseAt kindBytes sizesOf relationsOf clausesOf targetsOf columnsIn withVersion withSizes withRelations withClauses withTargets siteOf isAt holds names kept keptColumns firstBare ended filled listInto targetsThen clausesThen relationsThen sizesThen envelopeFrom envelopeBytes checkEnvelope edges onPath isPlace legalBy stepBytes constantsOf selectionsBy equalitiesBy stepsOf stepAt endedProgram stepsThen programBy readProgram programBytes checkProgram papersOf rowsIn tablesIn tablesOf meetsAll answerOn answerRows countIn wordsBefore rowsBefore firstWord rowsOver marksOver rowsAt marksAt keptOf keptRows sieved sievedOver reducedBy removedOf removedOver removedBy valuesOver valuesOf risingValues stepped nextOf shaped passesBy passes openingMark openedAt opened runMarks runChecked runOutcome marksAfter
 figures-hold = refl

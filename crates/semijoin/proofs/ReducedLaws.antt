@@ -15,7 +15,7 @@ use Rattle.tables.specs.Offsets.{countIn, firstMark, rowCount, rowsAt, marksAt,
 use Rattle.tables.specs.Rising.{among}
 use Rattle.tables.specs.Rows.{keptOf, keptRows}
 use Rattle.semijoin.specs.Marks.{sieved, reducedBy, removedBy, sievedOver, removedOver}
-use Rattle.tables.proofs.PartLaws.{none, part-length, part-stand, part-before, part-behind}
+use Rattle.ground.proofs.ListPartLaws.{none, part-length, part-stand, part-before, part-behind}
 use Rattle.tables.proofs.OffsetLaws.{count-outside, marks-end, rowsAt-length}
 use Rattle.semijoin.proofs.MarkLaws.{occurs, sieved-length, sieved-at, kept-sieved, removed-kept, sieved-alike}
 

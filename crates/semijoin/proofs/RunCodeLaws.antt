@@ -49,7 +49,7 @@ use Rattle.semijoin.proofs.CallCodeLaws.{after-refused, after-taken}
 
 module _ (e : Envelope) (words marks : List ℕ) (s : Step) (size : ℕ) (h : 4096 ≤ size) (t : shaped e words ≡ true)
     (room : rowCount e words ≤ length marks) (p : isPlace e (s .right) ≡ true) (gathered : Gathered)
-    (f : gathered ≡ gatheredOf (valuesOutcome e (s .right) words marks 0 (replicate size 0))) where
+    (f : gathered ≡ gatheredOf (valuesOutcome e words marks (s .right) 0 (replicate size 0))) where
   abbrev rising : List ℕ
   rising = risingValues e words marks (s .right)
 
@@ -71,7 +71,7 @@ module _ (e : Envelope) (words marks : List ℕ) (s : Step) (size : ℕ) (h : 40
   pub step-refused : (m q : ℕ) → gathered ≡ g.Refused m q → ⊥
   step-refused m q k = let z : _≡_ {A = ℕ} 0 1 = cc is-length in never z
 
-  module _ (values : List ℕ) (b : values ≡ gatheredIn 0 (replicate size 0) (valuesOutcome e (s .right) words marks 0 (replicate size 0)))
+  module _ (values : List ℕ) (b : values ≡ gatheredIn 0 (replicate size 0) (valuesOutcome e words marks (s .right) 0 (replicate size 0)))
       (n : ℕ) (k : gathered ≡ g.Length n) where
     count : n ≡ length rising
     count = cc is-length

@@ -50,8 +50,8 @@ removedBy e words values a marks = removedOver (extentOf e words (a .relation)) 
 
 -- ---- with its refusals: 10, 11, 14, 15
 
-unfoldable pub reduceOutcome : Envelope → Place → List ℕ → List ℕ → List ℕ → Outcome (List ℕ)
-reduceOutcome e a words values marks =
+unfoldable pub reduceOutcome : Envelope → List ℕ → List ℕ → Place → List ℕ → Outcome (List ℕ)
+reduceOutcome e words values a marks =
     judged
     (columnTests e a words (length marks) ++ test (not (isRising values)) notSound 0 ∷ [])
     (good (reducedBy e words values a marks) 0)

@@ -135,7 +135,7 @@ front-last l a b c vs =
 
 module _ (e : Envelope) (words : List ℕ) (shape : shaped e words ≡ true) (marks : List ℕ) (room : rowCount e words ≤ length marks) (a : Place)
     (here : isPlace e a ≡ true) (start : ℕ) (out : List ℕ) (y : Gathered) (after : List ℕ)
-    (f : y ≡ gatheredOf (valuesOutcome e a words marks start out)) (k : after ≡ gatheredIn start out (valuesOutcome e a words marks start out)) where
+    (f : y ≡ gatheredOf (valuesOutcome e words marks a start out)) (k : after ≡ gatheredIn start out (valuesOutcome e words marks a start out)) where
   abbrev listed : List ℕ
   listed = risingValues e words marks a
 
@@ -194,8 +194,8 @@ module _ (q : Papers) (x : End) (words marks : List ℕ) (n : ℕ) (out : List �
         ltb-true _ _ (and-left _ _ (sym f ∙ sending-ours (q .program) (x .applied) ours (s .right .relation) n w k h)) in
         rw e (step-legal q (u .papers) n t .right)
 
-    module _ (y : Gathered) (after : List ℕ) (a : y ≡ gatheredOf (valuesOutcome (q .envelope) (s .right) words marks 3 out))
-        (b : after ≡ gatheredIn 3 out (valuesOutcome (q .envelope) (s .right) words marks 3 out)) where
+    module _ (y : Gathered) (after : List ℕ) (a : y ≡ gatheredOf (valuesOutcome (q .envelope) words marks (s .right) 3 out))
+        (b : after ≡ gatheredIn 3 out (valuesOutcome (q .envelope) words marks (s .right) 3 out)) where
       pub values-none : (m p : ℕ) → y ≡ g.Refused m p → Makes out outcome (Refused m p) after
       unfolding valueMessage
       values-none m p t =

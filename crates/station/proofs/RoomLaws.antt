@@ -22,7 +22,7 @@ use Rattle.entries.specs.Places.{place}
 use Rattle.tables.specs.Offsets.{countIn, firstWord}
 use Rattle.tables.specs.Shape.{shaped}
 use Rattle.semijoin.specs.Promise.{keptAt, SameRows}
-use Rattle.tables.proofs.SumLaws.{sum-none, sum-below}
+use Rattle.ground.proofs.SumLaws.{sum-none, sum-below}
 use Rattle.tables.proofs.OffsetLaws.{first-none, first-more}
 use Rattle.tables.proofs.ShapeLaws.{shaped-shape}
 use Rattle.semijoin.proofs.PromiseLaws.{promise}

@@ -131,7 +131,7 @@ module _ (m by : List ℕ) (p : by ≡ drop 3 m) (place done : ℕ) (b : Bool) (
 
 module _ (e : Envelope) (words : List ℕ) (shape : shaped e words ≡ true) (marks : List ℕ) (room : rowCount e words ≤ length marks) (a : Place)
     (here : isPlace e a ≡ true) (by : List ℕ) (n : ℕ) (y : Reduced) (after : List ℕ)
-    (f : y ≡ reducedOf n (reduceOutcome e a words by marks)) (k : after ≡ marksAfter marks (reduceOutcome e a words by marks)) where
+    (f : y ≡ reducedOf n (reduceOutcome e words by a marks)) (k : after ≡ marksAfter marks (reduceOutcome e words by a marks)) where
   reduce-falls : (m p : ℕ) → y ≡ r.Refused m p → (isRising by ≡ false) × (m ≡ notSound) × (p ≡ 0) × (after ≡ marks)
   reduce-falls m p h = go (isRising by) refl
     where
@@ -212,8 +212,8 @@ module _ (q : Papers) (x : End) (words marks m : List ℕ) (n : ℕ) (u : Usable
               (λ o. rw (lt-ltb place done o) (takes-bad alreadyTaken 0 (rw (← e, ← f, t, sound-by, a, ← i, ← j, lt-ltb place done o))))
 
       module _ (same : place ≡ done) (by : List ℕ) (body : by ≡ drop 3 m) (removed : ℕ) (y : Reduced) (after : List ℕ)
-          (g : y ≡ reducedOf removed (reduceOutcome (q .envelope) (s .left) words by marks))
-          (k : after ≡ marksAfter marks (reduceOutcome (q .envelope) (s .left) words by marks)) where
+          (g : y ≡ reducedOf removed (reduceOutcome (q .envelope) words by (s .left) marks))
+          (k : after ≡ marksAfter marks (reduceOutcome (q .envelope) words by (s .left) marks)) where
         here : isPlace (q .envelope) (s .left) ≡ true
         here = rw e (step-legal q (u .papers) n l .left)
 

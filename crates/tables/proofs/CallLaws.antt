@@ -45,61 +45,61 @@ module _ (e : Envelope) (a : Place) (words marks : List ℕ) (start : ℕ) (out 
   valuesTests = test (not (isPlace e a)) notOurs 0 ∷ roomTest (risingValues e words marks a) start out ∷ []
 
   -- it refuses by 10, 11, 14, at 0
-  pub values-number : (n p : ℕ) → valuesOutcome e a words marks start out ≡ bad n p
+  pub values-number : (n p : ℕ) → valuesOutcome e words marks a start out ≡ bad n p
       → List·Memᴰ n (wrongShape ∷ tooShort ∷ notOurs ∷ tooShort ∷ []) × (p ≡ 0)
   unfolding valuesOutcome
   values-number n p h =
       refusal-listed (columnTests e a words (length marks) ++ roomTest found start out ∷ []) found 0 n p (refl, (refl, (refl, (refl, tt)))) h
 
-  pub values-shapeless : shaped e words ≡ false → valuesOutcome e a words marks start out ≡ bad wrongShape 0
+  pub values-shapeless : shaped e words ≡ false → valuesOutcome e words marks a start out ≡ bad wrongShape 0
   unfolding valuesOutcome
   values-shapeless s = first-shape e words (length marks) valuesTests (good found 0) s
 
   module _ (s : shaped e words ≡ true) where
-    pub values-unmarked : length marks < rowCount e words → valuesOutcome e a words marks start out ≡ bad tooShort 0
+    pub values-unmarked : length marks < rowCount e words → valuesOutcome e words marks a start out ≡ bad tooShort 0
     unfolding valuesOutcome
     values-unmarked h = then-marks e words (length marks) valuesTests (good found 0) s h
 
     module _ (h : rowCount e words ≤ length marks) where
-      pub values-nowhere : isPlace e a ≡ false → valuesOutcome e a words marks start out ≡ bad notOurs 0
+      pub values-nowhere : isPlace e a ≡ false → valuesOutcome e words marks a start out ≡ bad notOurs 0
       unfolding valuesOutcome
       values-nowhere c = then-rest e words (length marks) valuesTests (good found 0) s h ∙ rw c
 
       module _ (c : isPlace e a ≡ true) where
         pub values-narrow : length out < start + length (risingValues e words marks a)
-            → valuesOutcome e a words marks start out ≡ bad tooShort 0
+            → valuesOutcome e words marks a start out ≡ bad tooShort 0
         unfolding valuesOutcome
         values-narrow k =
             then-rest e words (length marks) valuesTests (good found 0) s h ∙ rw (c, lt-ltb (length out) (start + length found) k)
 
         module _ (k : start + length (risingValues e words marks a) ≤ length out) where
-          pub values-taken : valuesOutcome e a words marks start out ≡ good (risingValues e words marks a) 0
+          pub values-taken : valuesOutcome e words marks a start out ≡ good (risingValues e words marks a) 0
           unfolding valuesOutcome
           values-taken =
               then-rest e words (length marks) valuesTests (good found 0) s h ∙ rw (c, le-ltb (length out) (start + length found) k)
 
-          pub values-length : gatheredOf (valuesOutcome e a words marks start out) ≡ g.Length (length (risingValues e words marks a))
+          pub values-length : gatheredOf (valuesOutcome e words marks a start out) ≡ g.Length (length (risingValues e words marks a))
           unfolding gatheredOf
           values-length = rw values-taken
 
-          pub values-buffer : gatheredIn start out (valuesOutcome e a words marks start out) ≡ sets out start (risingValues e words marks a)
+          pub values-buffer : gatheredIn start out (valuesOutcome e words marks a start out) ≡ sets out start (risingValues e words marks a)
           unfolding gatheredIn
           values-buffer = rw values-taken
 
   -- a refusal, as it is answered
-  module _ (n p : ℕ) (h : valuesOutcome e a words marks start out ≡ bad n p) where
-    pub values-refused : gatheredOf (valuesOutcome e a words marks start out) ≡ g.Refused n p
+  module _ (n p : ℕ) (h : valuesOutcome e words marks a start out ≡ bad n p) where
+    pub values-refused : gatheredOf (valuesOutcome e words marks a start out) ≡ g.Refused n p
     unfolding gatheredOf
     values-refused = rw h
 
-    pub values-stay : gatheredIn start out (valuesOutcome e a words marks start out) ≡ out
+    pub values-stay : gatheredIn start out (valuesOutcome e words marks a start out) ≡ out
     unfolding gatheredIn
     values-stay = rw h
 
 -- a value occurs, where tables, marks and column are right, as it is among the column's values
 module _ (e : Envelope) (a : Place) (words marks : List ℕ) (x : ℕ) where
   pub occurs-there : shaped e words ≡ true → rowCount e words ≤ length marks → isPlace e a ≡ true
-      → occursIn e a words marks x ≡ among (valuesOf e words marks a) x
+      → occursIn e words marks a x ≡ among (valuesOf e words marks a) x
   unfolding occursIn
   occurs-there s h c = rw (s, le-leb (rowCount e words) (length marks) h, c)
 

@@ -1,7 +1,5 @@
 -- The laws of tables and marks: where things lie, what the shape says, which rows are kept; and what each function on them
 -- answers.
-pub mod PartLaws
-pub mod SumLaws
 pub mod OffsetLaws
 pub mod ShapeLaws
 pub mod JudgedLaws

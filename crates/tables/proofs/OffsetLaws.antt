@@ -16,7 +16,7 @@ use Rattle.contents.specs.Parts.{relationCount, columnsIn}
 use Rattle.contents.specs.declared.envelope.Envelope.{Envelope}
 use Rattle.paths.specs.Meaning.{Row, Table, wordIn, rowsIn, tablesIn, countsOf, tablesOf}
 use Rattle.tables.specs.Offsets.{countIn, wordsBefore, rowsBefore, firstWord, firstMark, rowsOver, rowsAt}
-use Rattle.tables.proofs.SumLaws.{sum-none, sum-below, sum-end}
+use Rattle.ground.proofs.SumLaws.{sum-none, sum-below, sum-end}
 
 -- ---- rows cut from words
 

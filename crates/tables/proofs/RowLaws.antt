@@ -15,7 +15,7 @@ use Rattle.paths.specs.Meaning.{Row, Table, wordIn}
 use Rattle.tables.specs.Offsets.{rowsOver, marksOver}
 use Rattle.tables.specs.Rows.{isKept, keptOf}
 use Rattle.tables.specs.declared.offsets.Extent.{Extent}
-use Rattle.tables.proofs.PartLaws.{part-length, part-getD}
+use Rattle.ground.proofs.ListPartLaws.{part-length, part-getD}
 use Rattle.tables.proofs.OffsetLaws.{rows-length, rows-at}
 
 -- ---- one row's word and mark
