@@ -11,3 +11,4 @@ pub mod RisingCodeLaws
 pub mod ValueCodeLaws
 pub mod GatherCodeLaws
 pub mod CallLaws
+pub mod Examples
