@@ -1,4 +1,4 @@
--- "Kept columns are those in a clause or target." "Relation with no kept column: lowest such."
+-- "Kept columns are those in a clause or target." Refusal 9: "relation with no kept column", "lowest such".
 use Prim.Native.Nat.{ℕ}
 use mathlib.Core.List.{List}
 use mathlib.Core.Bool.{Bool, _||_}

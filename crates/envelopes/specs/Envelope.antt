@@ -1,6 +1,6 @@
 -- "Envelope: the three letters CPN and a 16-bit version, 1; domain count, 1 byte; sizes, 4 bytes each; relation count,
 -- 1; per relation ..; clause count, 1; clauses; target count, 1; targets as relation 1, column 1."
--- "Domains 1 to 16, each of size 1 to 16,777,215. Relations 1 to 8. Clauses 0 to 12, target columns 1 to 16."
+-- "Domains 1 to 16, each of size 1 to 16,777,215. Relations 1 to 8 .. Clauses 0 to 12, target columns 1 to 16."
 -- "Papers are checked field by field as they stand, then 7, then 9."
 use Prim.Native.Nat.{ℕ}
 use mathlib.Core.List.{List, [], _∷_, _++_}
@@ -89,7 +89,7 @@ envelopeBytes e =
     ++ bytesOf 1 (e .«clause_count») ++ each clauseBytes (clausesOf e)
     ++ bytesOf 1 (e .«target_count») ++ each placeBytes (targetsOf e)
 
--- "An envelope not given as bytes is checked first as its bytes would be"
+-- "An envelope .. not given as bytes .. is checked first as its bytes would be"
 unfoldable pub checkEnvelope : Envelope → Outcome Envelope
 checkEnvelope e = readEnvelope (envelopeBytes e)
 

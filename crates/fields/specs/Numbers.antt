@@ -1,5 +1,5 @@
--- "All numbers little end first." "Ends inside a field: start of that field." "A number beyond its limit or naming
--- nothing: start." "The three letters .. and a 16-bit version."
+-- "All numbers little end first." Refusal 1: "ends inside a field", "start of that field". Refusal 4: "a number beyond its
+-- limit or naming nothing", "start". "The three letters .. and a 16-bit version."
 -- Each reading goes from the bytes of a paper and a position to an outcome.
 use Prim.Native.Nat.{ℕ, _+_}
 use mathlib.Core.List.{List, [], _∷_}

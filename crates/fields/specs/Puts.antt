@@ -1,5 +1,5 @@
--- "Writing starts at the front of the lent buffer, returns the length written and leaves the rest." "Lent buffer too
--- short: 11." A refusal leaves the whole buffer.
+-- "Making, answering and writing start at the front of the lent buffer, return the length written and leave the rest." Refusal
+-- 11: "lent buffer too short". A refusal leaves the whole buffer.
 use Prim.Native.Nat.{ℕ, _+_, _≤_}
 use mathlib.Core.Path.{_≡_}
 use mathlib.Core.List.{List}

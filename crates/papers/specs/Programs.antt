@@ -82,7 +82,7 @@ readProgram e s = next (checkEnvelope e) (λ e _. programAgainst e s)
 unfoldable pub programBytes : Program → List ℕ
 programBytes p = SJP ++ bytesOf 2 1 ++ bytesOf 1 (p .site) ++ bytesOf 1 (p .count) ++ each stepBytes (stepsOf p)
 
--- "a program, not given as bytes, is checked first as its bytes would be"
+-- "a program, not given as bytes, .. is checked first as its bytes would be"
 unfoldable pub checkProgram : Envelope → Program → Outcome Program
 checkProgram e p = readProgram e (programBytes p)
 
@@ -101,7 +101,7 @@ shownStep (bad n p) = Not n p
 abbrev pub shownProgram : Outcome Program → ProgramRead
 shownProgram o = record { verdict = verdictOf o; program = valueOf noProgram o }
 
--- ---- "accepted exactly when it is well formed and each of its steps is legal", as a statement: whole says that the array
+-- ---- demand 2's "accepted exactly when it is well formed and each of its steps is legal", as a statement: whole says that the array
 -- is as long as the count asks
 
 pub record Acceptable (e : Envelope) (p : Program) : Type 0 where

@@ -1,5 +1,5 @@
--- "Columns and constants are nodes, clauses are edges. A constant belongs to its column's domain, so 5 in two domains is
--- two nodes. Everything joined by a path is equal."
+-- "Columns and constants are nodes, clauses are edges. H: a constant belongs to its column's domain, so 5 in two domains is
+-- two nodes. Everything joined by a path is equal".
 use mathlib.Core.Bool.{Bool, false, _&&_, _||_}
 use mathlib.Core.Path.{_≡_}
 use mathlib.Core.List.{List, [], _∷_, map, List·Memᴰ}

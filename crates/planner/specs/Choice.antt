@@ -1,8 +1,8 @@
 -- "2. Again and again, of the unused legal steps with benefit above cost, append the one of greatest benefit minus cost;
 -- ties go to the smallest left relation, left column, right relation, right column, in that order. 3. The cheapest site
 -- that holds a relation, lowest number on a tie. 4. Steps whose left relation is there, dearest first and earlier first on a
--- tie: drop the step if the total at that site, estimated anew, becomes strictly lower. Costs for the ordering are those
--- before any drop. 5. If the total isn't below the total of local operations alone at their cheapest site, hand out no steps
+-- tie: drop the step if the total at that site, estimated anew, becomes strictly lower .. Costs for the ordering are those
+-- before any drop. 5. H: if the total isn't below the total of local operations alone at their cheapest site, hand out no steps
 -- and that site." Over any kind of estimate.
 use mathlib.Core.Bool.{Bool, not}
 use mathlib.Core.List.{List, [], _∷_, map}

@@ -1,7 +1,7 @@
 -- What the planner promises, point by point of 01, over any kind of estimate. "Again and again, of the unused legal steps with
--- benefit above cost, append the one of greatest benefit minus cost; ties go to the smallest ... The cheapest site that holds
+-- benefit above cost, append the one of greatest benefit minus cost; ties go to the smallest .. The cheapest site that holds
 -- a relation, lowest number on a tie. Steps whose left relation is there, dearest first and earlier first on a tie: drop the
--- step if the total at that site, estimated anew, becomes strictly lower. ... So the total handed out is never above the
+-- step if the total at that site, estimated anew, becomes strictly lower .. So the total handed out is never above the
 -- local-only total." And what that says of the plan that is handed out.
 use mathlib.Core.Path.{_≡_}
 use mathlib.Core.Bool.{Bool, true, false, not}

@@ -1,4 +1,4 @@
--- Lists of values, as "column B's distinct kept values rising" and "values not strictly rising: 15" speak of them: whether
+-- Lists of values, as "column B's distinct kept values rising" and refusal 15's "values not strictly rising" speak of them: whether
 -- a value is among them, and whether they rise.
 use Prim.Native.Nat.{ℕ, _+_}
 use mathlib.Core.Bool.{Bool, true, _&&_}

@@ -1,5 +1,5 @@
--- "Tables not of the envelope's shape or beyond the sizes: 10." "True rows at most 4,096 per relation, all tables together at
--- most 16,384 words, row counts included." "An end has one mark byte per true row." "Lent buffer too short: 11."
+-- Refusal 10: "tables not of the envelope's shape or beyond the sizes". "True rows at most 4,096 per relation, all tables together at
+-- most 16,384 words, row counts included." "An end has one mark byte per true row." Refusal 11: "lent buffer too short".
 use Prim.Native.Nat.{ℕ}
 use mathlib.Core.Bool.{Bool, _&&_, not}
 use mathlib.Core.List.{List, [], _∷_, _++_}
