@@ -277,6 +277,21 @@ fn lent(last: End) {
     );
 }
 
+// A station delivers to itself: site 1 is the assembly site.
+fn delivered(last: End) {
+    let here = HERE;
+    let mut marks = [0u8, 1];
+    let mut message = [9u32; 5];
+    let mut store = [9u32; 6];
+    station::making::make_rows(last, &here, &marks, 0, &mut message);
+    let received = station::receiving::receive(last, &here, &mut marks, &mut store, &message);
+    let verdict = received.verdict;
+    show::print_verdict(b"receive rows where they were made", verdict);
+    show::print_marks(&marks);
+    show::print_words(b"  store", &store);
+    show::print_end(received.end);
+}
+
 fn main() {
     openings();
     let end = opened();
@@ -284,4 +299,5 @@ fn main() {
     unsound();
     makings(end, last);
     lent(last);
+    delivered(last);
 }

@@ -1,6 +1,7 @@
--- What was made at one end, delivered to another of the same run and papers: where the tables there are of the shape and the
--- marks enough, it is taken, or refused because it is not that end's (14), was there before (16), comes too early (17) or finds no
--- room in the store (11). It is never refused as cut short, of another run, or not sound.
+-- "A station delivers to itself where both ends are one." What was made at one end, delivered to any end of the same run and
+-- papers, also to the one that made it: where the tables there are of the shape and the marks enough, it is taken, or refused
+-- because it is not that end's (14), was there before (16), comes too early (17) or finds no room in the store (11). It is never
+-- refused as cut short, of another run, or not sound.
 use mathlib.Core.Path.{_≡_, refl, ap, sym, _∙_}
 use mathlib.Core.Bool.{Bool, true, false, not}
 use mathlib.Core.List.{List, [], _∷_, _++_, List·Memᴰ}
