@@ -11,7 +11,7 @@ use native.Mathlib.Nat.{le-refl}
 use native.Mathlib.Omega.{arith}
 use borrow.Author.Tests.{lt-ltb, le-ltb}
 use lib.ListN.{length, getD}
-use Rattle.ground.specs.Lists.{filter, below}
+use Rattle.ground.specs.Lists.{Every, filter, below}
 use Rattle.ground.specs.Order.{Ordered}
 use Rattle.ground.specs.Outcome.Outcome.{good}
 use Rattle.ground.proofs.CountLaws.{split}
@@ -22,6 +22,8 @@ use Rattle.ground.proofs.OrderLaws.{numbers-ordered, ordered-filter}
 use Rattle.contents.specs.Sites.{isAt, holds}
 use Rattle.contents.specs.declared.envelope.Envelope.{Envelope}
 use Rattle.envelopes.specs.Rules.{Within}
+use Rattle.envelopes.specs.Envelope.{readEnvelope, checkEnvelope}
+use Rattle.envelopes.proofs.ExactEnvelope.{envelope-exact, check-sound}
 use Rattle.paths.specs.Steps.{legalSteps, StepBefore}
 use Rattle.paths.specs.declared.steps.Step.{Step}
 use Rattle.paths.proofs.StepLaws.{legal-ordered}
@@ -210,7 +212,15 @@ module _ (k : Costs) (e : Envelope) (w : Within e) where
         less = λ h. plan-below k e (λ q. h (steps-are ∙ q));
       }
 
--- what plan hands out for an envelope that was taken
-pub plan-holds : (e : Envelope) (p : ℕ) → Within e → PlanKept plainCosts e (planOf (good e p))
+-- ---- what plan and plan_paper hand out for an envelope that was taken
+
+plan-holds : (e : Envelope) (p : ℕ) → Within e → PlanKept plainCosts e (planOf (good e p))
 unfolding planOf
 plan-holds e p w = plan-kept plainCosts e w
+
+pub plan-checked : (e f : Envelope) (p : ℕ) → checkEnvelope e ≡ good f p → PlanKept plainCosts f (planOf (checkEnvelope e))
+plan-checked e f p h = rw h (plan-holds f p (check-sound e f p h .0 .0))
+
+pub plan-read : (s : List ℕ) → Every (λ (x : ℕ). x < 256) s → (f : Envelope) (p : ℕ) → readEnvelope s ≡ good f p
+    → PlanKept plainCosts f (planOf (readEnvelope s))
+plan-read s b f p h = rw h (plan-holds f p (envelope-exact s f p b .0 h .0 .0))
