@@ -2,11 +2,11 @@ use Prim.Native.Nat.{_≤_, _-_}
 use lib.ListN.{length}
 use borrow.Author.Needs.{needs}
 use native.Mathlib.Omega.{arith}
-use Rattle.ends.proofs.show.print_marks.Statement.{statement}
-use Rattle.ends.proofs.show.print_marks.Tie as tie
-use Rattle.ends.proofs.show.print_marks.Reads as reads
-use Rattle.ends.proofs.show.print_marks.Lts as lts
-use Rattle.ends.proofs.show.print_byte.Reads as print-byte-reads
+use Rattle.refusals.proofs.show.print_marks.Statement.{statement}
+use Rattle.refusals.proofs.show.print_marks.Tie as tie
+use Rattle.refusals.proofs.show.print_marks.Reads as reads
+use Rattle.refusals.proofs.show.print_marks.Lts as lts
+use Rattle.refusals.proofs.show.print_byte.Reads as print-byte-reads
 use Rattle.io.proofs.write_all.Reads as write-all-reads
 
 abbrev Inv-loop : tie.InvT-loop
