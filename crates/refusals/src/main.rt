@@ -2,13 +2,13 @@
 // receiving can give among them, and under it what was lent, as it is afterwards. A run at two sites: relation 0 at site 1,
 // relation 1 at site 2, joined on their first columns; steps 0 and 2 reduce relation 0, step 1 relation 1.
 use contents::envelope::Envelope;
+use ends::ends::End;
 use entries::clauses::Clause;
 use entries::clauses::ClauseKind;
 use entries::places::Place;
 use ground::Verdict;
 use papers::programs::Program;
 use paths::steps::Step;
-use station::ends::End;
 
 mod show;
 

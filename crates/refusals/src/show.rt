@@ -1,6 +1,6 @@
 // What is printed: how a call is answered, and what was lent, as it is afterwards.
+use ends::ends::End;
 use ground::Verdict;
-use station::ends::End;
 use station::making::Made;
 
 pub(crate) fn print_verdict(what: &[u8], verdict: Verdict) {

@@ -24,16 +24,16 @@ use Rattle.papers.specs.Checks.{GoodPapers}
 use Rattle.papers.specs.declared.checks.Papers.{Papers}
 use Rattle.tables.specs.Shape.{shaped}
 use Rattle.tables.specs.Values.{risingValues}
-use Rattle.station.specs.Reducing.{stepCount, stepOf, placeOf}
-use Rattle.station.specs.Ends.{Marked, appliedOf, hasArrived}
-use Rattle.station.specs.Messages.{frontLength, valueMessage, rowMessage, runOf, secondOf, aboutOf, counted, soundValues}
+use Rattle.ends.specs.Reducing.{stepCount, stepOf, placeOf}
+use Rattle.ends.specs.Ends.{Marked, appliedOf, hasArrived}
+use Rattle.ends.specs.Messages.{frontLength, valueMessage, rowMessage, runOf, secondOf, aboutOf, counted, soundValues}
 use Rattle.station.specs.Making.{sentRows}
 use Rattle.station.specs.Receiving.{Stored, Held, valuesTaken, rowsTaken, taken, receiveWith}
-use Rattle.station.specs.declared.messages.About.{About}
-use Rattle.station.specs.declared.messages.About.the-variants as about
-use Rattle.station.specs.declared.ends.End.{End}
-use Rattle.station.proofs.EndLaws.{here-below}
-use Rattle.station.proofs.MessageLaws.{about-step, about-rows, value-run, value-second, row-run, row-second, value-front, row-front}
+use Rattle.ends.specs.declared.messages.About.{About}
+use Rattle.ends.specs.declared.messages.About.the-variants as about
+use Rattle.ends.specs.declared.ends.End.{End}
+use Rattle.ends.proofs.EndLaws.{here-below}
+use Rattle.ends.proofs.MessageLaws.{about-step, about-rows, value-run, value-second, row-run, row-second, value-front, row-front}
 use Rattle.station.proofs.MadeLaws.{values-sound, rows-counted}
 use Rattle.station.proofs.MakingLaws.{ValuesMade, RowsMade}
 use Rattle.station.proofs.ReceivingLaws.{stepTests, stepEffect, step-judged, rowsTests, rowsEffect, rows-judged}

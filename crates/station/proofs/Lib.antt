@@ -1,11 +1,6 @@
 -- The laws of the definitions in specs/, file by file under the same names; those that only returns of functions cite have Code in
--- their names. Sound and Stays are of ends that calls hand on, Made and Delivered of what is made at one end and comes to
--- another, Room of the store.
-pub mod CountingLaws
-pub mod ReducingLaws
-pub mod MessageLaws
-pub mod EndLaws
-pub mod MessageCodeLaws
+-- their names. Stays is of ends that calls hand on, Made and Delivered of what is made at one end and comes to another, Room of
+-- the store.
 pub mod CallLaws
 pub mod OpeningCodeLaws
 pub mod MakingCodeLaws
@@ -14,7 +9,6 @@ pub mod ReceivingCodeLaws
 pub mod RowCodeLaws
 pub mod RowMessageCodeLaws
 pub mod MadeLaws
-pub mod SoundLaws
 pub mod OpeningLaws
 pub mod MakingLaws
 pub mod ReceivingLaws

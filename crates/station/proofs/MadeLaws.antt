@@ -20,9 +20,9 @@ use Rattle.semijoin.specs.Promise.{keptAt, rowOf}
 use Rattle.tables.proofs.ShapeLaws.{shaped-shape}
 use Rattle.tables.proofs.RisingLaws.{rising-exact}
 use Rattle.semijoin.proofs.PromiseLaws.{promise}
-use Rattle.station.specs.Messages.{valueMessage, rowMessage, counted, soundValues, rowsOf}
+use Rattle.ends.specs.Messages.{valueMessage, rowMessage, counted, soundValues, rowsOf}
 use Rattle.station.specs.Making.{sentRows}
-use Rattle.station.proofs.MessageLaws.{Wide, value-sound, row-counted, row-rows}
+use Rattle.ends.proofs.MessageLaws.{Wide, value-sound, row-counted, row-rows}
 use Rattle.station.proofs.RowCodeLaws.{chosen, rowWords, sent-by}
 
 module _ (e : Envelope) (words marks : List ℕ) (shape : shaped e words ≡ true) where

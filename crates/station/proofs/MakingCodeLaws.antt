@@ -36,18 +36,18 @@ use Rattle.tables.specs.declared.values.Gathered.the-variants as g
 use Rattle.tables.proofs.ShapeLaws.{shaped-shape}
 use Rattle.tables.proofs.CallLaws.{values-narrow, values-length, values-buffer, values-refused, values-stay}
 use Rattle.semijoin.proofs.PromiseLaws.{promise}
-use Rattle.station.specs.Reducing.{stepCount, stepOf, isMissing, firstMissing, missingOf}
+use Rattle.ends.specs.Reducing.{stepCount, stepOf, isMissing, firstMissing, missingOf}
 use Rattle.station.specs.Calls.{leaves}
-use Rattle.station.specs.Ends.{usable, Usable}
-use Rattle.station.specs.Messages.{valueMessage}
+use Rattle.ends.specs.Ends.{usable, Usable}
+use Rattle.ends.specs.Messages.{valueMessage}
 use Rattle.station.specs.Making.{sendTests, fitted, valuesWith, makeValuesOf, shownMade, madeIn}
-use Rattle.station.specs.declared.ends.End.{End}
-use Rattle.station.specs.declared.reducing.Missing.{Missing}
-use Rattle.station.specs.declared.reducing.Missing.the-variants.{First, None}
+use Rattle.ends.specs.declared.ends.End.{End}
+use Rattle.ends.specs.declared.reducing.Missing.{Missing}
+use Rattle.ends.specs.declared.reducing.Missing.the-variants.{First, None}
 use Rattle.station.specs.declared.making.Made.{Made}
 use Rattle.station.specs.declared.making.Made.the-variants.{Length, Refused}
-use Rattle.station.proofs.ReducingLaws.{missing-first, missing-not}
-use Rattle.station.proofs.EndLaws.{step-legal, call-refused, call-with}
+use Rattle.ends.proofs.ReducingLaws.{missing-first, missing-not}
+use Rattle.ends.proofs.EndLaws.{step-legal, call-refused, call-with}
 
 -- ---- an outcome as the answer and the buffer afterwards
 

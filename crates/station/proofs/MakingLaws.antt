@@ -22,16 +22,16 @@ use Rattle.papers.specs.declared.checks.Papers.{Papers}
 use Rattle.tables.specs.Offsets.{rowCount}
 use Rattle.tables.specs.Shape.{shaped}
 use Rattle.tables.specs.Values.{risingValues}
-use Rattle.station.specs.Reducing.{stepCount, stepOf, placeOf, isMissing, firstMissing}
-use Rattle.station.specs.Ends.{appliedOf, usable, Usable, papersIn, Sound}
-use Rattle.station.specs.Messages.{valueMessage, rowMessage}
+use Rattle.ends.specs.Reducing.{stepCount, stepOf, placeOf, isMissing, firstMissing}
+use Rattle.ends.specs.Ends.{appliedOf, usable, Usable, papersIn, Sound}
+use Rattle.ends.specs.Messages.{valueMessage, rowMessage}
 use Rattle.station.specs.Making.{sendTests, fitted, valuesWith, makeValuesOf, sentRows, rowsWith, makeRowsOf, shownMade, madeIn}
-use Rattle.station.specs.declared.ends.End.{End}
+use Rattle.ends.specs.declared.ends.End.{End}
 use Rattle.station.specs.declared.making.Made.{Made}
 use Rattle.station.specs.declared.making.Made.the-variants.{Length, Refused}
 use Rattle.station.proofs.CallLaws.{each-passes, leaves-refused}
-use Rattle.station.proofs.EndLaws.{usable-is}
-use Rattle.station.proofs.SoundLaws.{ToldFirst, call-number, sound-call}
+use Rattle.ends.proofs.EndLaws.{usable-is}
+use Rattle.ends.proofs.SoundLaws.{ToldFirst, call-number, sound-call}
 
 -- ---- 14, 12, 11, of any message
 

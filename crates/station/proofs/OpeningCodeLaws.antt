@@ -32,9 +32,9 @@ use Rattle.semijoin.specs.Marks.{marksAfter}
 use Rattle.semijoin.specs.Local.{openedIn, openOutcome}
 use Rattle.semijoin.proofs.CallLaws as calls
 use Rattle.station.specs.Calls.{leaves}
-use Rattle.station.specs.Ends.{Marked, startOf, noEnd}
+use Rattle.ends.specs.Ends.{Marked, startOf, noEnd}
 use Rattle.station.specs.Opening.{hereAt, openWith, openOf, shownOpened, openedMarks}
-use Rattle.station.specs.declared.ends.End.{End}
+use Rattle.ends.specs.declared.ends.End.{End}
 use Rattle.station.specs.declared.opening.Opened.{Opened}
 
 -- ---- which relations are here

@@ -27,9 +27,9 @@ use Rattle.tables.specs.Offsets.{rowCount}
 use Rattle.tables.specs.Shape.{shaped}
 use Rattle.semijoin.specs.Local.{openedIn}
 use Rattle.station.specs.Calls.{leaves}
-use Rattle.station.specs.Ends.{Marked, startOf, noEnd, Sound}
+use Rattle.ends.specs.Ends.{Marked, startOf, noEnd, Sound}
 use Rattle.station.specs.Opening.{openWith, openOf, shownOpened, openedMarks}
-use Rattle.station.specs.declared.ends.End.{End}
+use Rattle.ends.specs.declared.ends.End.{End}
 use Rattle.station.specs.declared.opening.Opened.{Opened}
 use Rattle.station.proofs.CallLaws.{each-passes, leaves-refused}
 

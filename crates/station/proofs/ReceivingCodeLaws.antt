@@ -13,18 +13,18 @@ use Rattle.papers.specs.Checks.{shownPapers}
 use Rattle.paths.specs.declared.steps.Step.{Step}
 use Rattle.papers.specs.declared.checks.Papers.{Papers}
 use Rattle.papers.specs.declared.checks.PapersRead.{PapersRead}
-use Rattle.station.specs.Reducing.{stepCount}
+use Rattle.ends.specs.Reducing.{stepCount}
 use Rattle.station.specs.Calls.{leaves}
-use Rattle.station.specs.Ends.{Marked, usable}
-use Rattle.station.specs.Messages.{aboutOf}
+use Rattle.ends.specs.Ends.{Marked, usable}
+use Rattle.ends.specs.Messages.{aboutOf}
 use Rattle.station.specs.Receiving.{Stored, Held, valuesTaken, rowsTaken, taken, receiveWith, receiveOf, refusedBy, shownReceived, receivedMarks, receivedStore}
-use Rattle.station.specs.declared.messages.About.{About}
-use Rattle.station.specs.declared.messages.About.the-variants as about
-use Rattle.station.specs.declared.ends.End.{End}
+use Rattle.ends.specs.declared.messages.About.{About}
+use Rattle.ends.specs.declared.messages.About.the-variants as about
+use Rattle.ends.specs.declared.ends.End.{End}
 use Rattle.station.specs.declared.receiving.Received.{Received}
-use Rattle.station.proofs.MessageLaws.{step-below, rows-below}
+use Rattle.ends.proofs.MessageLaws.{step-below, rows-below}
 use Rattle.station.proofs.CallLaws.{leaves-turned, verdict-turned}
-use Rattle.station.proofs.EndLaws.{call-refused, call-with}
+use Rattle.ends.proofs.EndLaws.{call-refused, call-with}
 use Rattle.station.proofs.TakingCodeLaws.{shown-bad, left-bad, stays}
 
 -- ---- by what the second word speaks of

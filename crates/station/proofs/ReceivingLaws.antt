@@ -23,19 +23,19 @@ use Rattle.papers.specs.declared.checks.Papers.{Papers}
 use Rattle.semijoin.specs.Marks.{reducedBy}
 use Rattle.semijoin.specs.Promise.{keptAt}
 use Rattle.semijoin.proofs.CallLaws.{none-left}
-use Rattle.station.specs.Reducing.{stepCount, stepOf, placeOf}
+use Rattle.ends.specs.Reducing.{stepCount, stepOf, placeOf}
 use Rattle.station.specs.Calls.{leaves}
-use Rattle.station.specs.Ends.{Marked, appliedOf, hasArrived, usable, Usable}
-use Rattle.station.specs.Messages.{frontLength, runOf, secondOf, bodyOf, aboutOf, counted, soundValues}
+use Rattle.ends.specs.Ends.{Marked, appliedOf, hasArrived, usable, Usable}
+use Rattle.ends.specs.Messages.{frontLength, runOf, secondOf, bodyOf, aboutOf, counted, soundValues}
 use Rattle.station.specs.Receiving.{Stored, Held, withApplied, withArrived, valuesTaken, rowsTaken, taken, receiveWith, receiveOf, refusedBy, shownReceived, receivedMarks, receivedStore}
-use Rattle.station.specs.declared.messages.About.{About}
-use Rattle.station.specs.declared.messages.About.the-variants as about
-use Rattle.station.specs.declared.ends.End.{End}
+use Rattle.ends.specs.declared.messages.About.{About}
+use Rattle.ends.specs.declared.messages.About.the-variants as about
+use Rattle.ends.specs.declared.ends.End.{End}
 use Rattle.station.specs.declared.receiving.Received.{Received}
 use Rattle.station.proofs.CallLaws.{each-passes, leaves-refused, refusal-or}
-use Rattle.station.proofs.EndLaws.{usable-is}
-use Rattle.station.proofs.MessageLaws.{step-below, rows-below}
-use Rattle.station.proofs.SoundLaws.{ToldFirst, call-number}
+use Rattle.ends.proofs.EndLaws.{usable-is}
+use Rattle.ends.proofs.MessageLaws.{step-below, rows-below}
+use Rattle.ends.proofs.SoundLaws.{ToldFirst, call-number}
 
 -- ---- the values of a step
 

@@ -26,11 +26,11 @@ use Rattle.ground.proofs.SumLaws.{sum-none, sum-below}
 use Rattle.tables.proofs.OffsetLaws.{first-none, first-more}
 use Rattle.tables.proofs.ShapeLaws.{shaped-shape}
 use Rattle.semijoin.proofs.PromiseLaws.{promise}
-use Rattle.station.specs.Ends.{hasArrived}
-use Rattle.station.specs.Messages.{frontLength, rowMessage}
+use Rattle.ends.specs.Ends.{hasArrived}
+use Rattle.ends.specs.Messages.{frontLength, rowMessage}
 use Rattle.station.specs.Making.{sentRows}
 use Rattle.station.specs.Receiving.{withArrived}
-use Rattle.station.specs.declared.ends.End.{End}
+use Rattle.ends.specs.declared.ends.End.{End}
 use Rattle.station.proofs.RowCodeLaws.{chosen, message-long}
 
 -- ---- one row message

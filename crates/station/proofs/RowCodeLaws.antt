@@ -27,11 +27,11 @@ use Rattle.tables.specs.Rows.{keptRows, wordOver, keptOver}
 use Rattle.semijoin.specs.Promise.{rowOf, keptAt}
 use Rattle.tables.specs.declared.offsets.Extent.{Extent}
 use Rattle.semijoin.proofs.PromiseLaws.{promise}
-use Rattle.station.specs.Messages.{rowMessage}
+use Rattle.ends.specs.Messages.{rowMessage}
 use Rattle.station.specs.Making.{sentRows, fitted}
 use Rattle.station.specs.declared.making.Made.{Made}
 use Rattle.station.specs.declared.making.Made.the-variants.{Length, Refused}
-use Rattle.station.proofs.CountingLaws.{Counting, counting-yes, counting-no, counting-less}
+use Rattle.ends.proofs.CountingLaws.{Counting, counting-yes, counting-no, counting-less}
 use Rattle.station.proofs.MakingCodeLaws.{Makes, makes-bad, makes-good, fitted-short, fitted-fits}
 
 -- ---- counting the kept rows

@@ -37,14 +37,14 @@ use Rattle.semijoin.specs.Promise.{keptAt}
 use Rattle.tables.specs.declared.offsets.Extent.{Extent}
 use Rattle.tables.proofs.ShapeLaws.{shaped-shape, columns-most}
 use Rattle.semijoin.proofs.CallLaws.{word-by, kept-by}
-use Rattle.station.specs.Reducing.{stepCount}
-use Rattle.station.specs.Ends.{usable, Usable}
-use Rattle.station.specs.Messages.{rowMessage}
+use Rattle.ends.specs.Reducing.{stepCount}
+use Rattle.ends.specs.Ends.{usable, Usable}
+use Rattle.ends.specs.Messages.{rowMessage}
 use Rattle.station.specs.Making.{sendTests, fitted, sentRows, rowsWith, makeRowsOf}
-use Rattle.station.specs.declared.ends.End.{End}
+use Rattle.ends.specs.declared.ends.End.{End}
 use Rattle.station.specs.declared.making.Made.{Made}
 use Rattle.station.specs.declared.making.Made.the-variants.{Length, Refused}
-use Rattle.station.proofs.EndLaws.{here-below, call-refused, call-with}
+use Rattle.ends.proofs.EndLaws.{here-below, call-refused, call-with}
 use Rattle.station.proofs.MakingCodeLaws.{Makes, makes-bad, makes-good, makes-same, fitted-short, fitted-fits, sending-ours}
 use Rattle.station.proofs.RowCodeLaws.{chosen, rowWords, message-is, message-long}
 

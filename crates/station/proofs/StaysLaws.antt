@@ -17,13 +17,13 @@ use Rattle.papers.specs.declared.checks.Papers.{Papers}
 use Rattle.tables.specs.Offsets.{rowCount}
 use Rattle.tables.specs.Shape.{shaped}
 use Rattle.semijoin.proofs.PromiseLaws.{promise}
-use Rattle.station.specs.Reducing.{stepCount, stepOf, placeOf}
-use Rattle.station.specs.Ends.{appliedOf, usable, papersIn, Sound}
-use Rattle.station.specs.Messages.{bodyOf}
+use Rattle.ends.specs.Reducing.{stepCount, stepOf, placeOf}
+use Rattle.ends.specs.Ends.{appliedOf, usable, papersIn, Sound}
+use Rattle.ends.specs.Messages.{bodyOf}
 use Rattle.station.specs.Receiving.{Held, appliedTo, withApplied, withArrived, receiveWith, receiveOf}
-use Rattle.station.specs.declared.ends.End.{End}
-use Rattle.station.proofs.EndLaws.{here-below}
-use Rattle.station.proofs.SoundLaws.{place-less, own-papers, sound-call}
+use Rattle.ends.specs.declared.ends.End.{End}
+use Rattle.ends.proofs.EndLaws.{here-below}
+use Rattle.ends.proofs.SoundLaws.{place-less, own-papers, sound-call}
 use Rattle.station.proofs.ReceivingLaws.{StepTaken, RowsTaken, Taken, with-facts}
 
 -- an end afterwards, and what was lent

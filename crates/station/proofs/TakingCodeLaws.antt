@@ -33,15 +33,15 @@ use Rattle.semijoin.specs.declared.marks.Reduced.{Reduced}
 use Rattle.semijoin.specs.declared.marks.Reduced.the-variants as r
 use Rattle.semijoin.proofs.CallLaws.{reduce-falling, reduce-rows, reduce-marks, reduce-refused, reduce-stay}
 use Rattle.tables.proofs.RisingLaws.{rising-exact}
-use Rattle.station.specs.Reducing.{stepCount, stepOf, placeOf}
+use Rattle.ends.specs.Reducing.{stepCount, stepOf, placeOf}
 use Rattle.station.specs.Calls.{leaves}
-use Rattle.station.specs.Ends.{Marked, Usable}
-use Rattle.station.specs.Messages.{counted, soundValues}
+use Rattle.ends.specs.Ends.{Marked, Usable}
+use Rattle.ends.specs.Messages.{counted, soundValues}
 use Rattle.station.specs.Receiving.{Stored, appliedTo, withApplied, withArrived, valuesTaken, rowsTaken, refusedBy, shownReceived}
-use Rattle.station.specs.declared.ends.End.{End}
+use Rattle.ends.specs.declared.ends.End.{End}
 use Rattle.station.specs.declared.receiving.Received.{Received}
-use Rattle.station.proofs.ReducingLaws.{place-most}
-use Rattle.station.proofs.EndLaws.{step-legal, here-below}
+use Rattle.ends.proofs.ReducingLaws.{place-most}
+use Rattle.ends.proofs.EndLaws.{step-legal, here-below}
 
 -- ---- an outcome as the answer
 

@@ -19,11 +19,11 @@ use Rattle.papers.specs.declared.programs.Program.{Program}
 use Rattle.papers.specs.declared.checks.Papers.{Papers}
 use Rattle.tables.specs.Rows.{keptRows}
 use Rattle.tables.specs.Values.{risingValues}
-use Rattle.station.specs.Reducing.{stepCount, stepOf, isMissing, firstMissing}
+use Rattle.ends.specs.Reducing.{stepCount, stepOf, isMissing, firstMissing}
 use Rattle.station.specs.Calls.{leaves}
-use Rattle.station.specs.Ends.{usable}
-use Rattle.station.specs.Messages.{valueMessage, rowMessage}
-use Rattle.station.specs.declared.ends.End.{End}
+use Rattle.ends.specs.Ends.{usable}
+use Rattle.ends.specs.Messages.{valueMessage, rowMessage}
+use Rattle.ends.specs.declared.ends.End.{End}
 use Rattle.station.specs.declared.making.Made.{Made}
 use Rattle.station.specs.declared.making.Made.the-variants.{Length, Refused}
 

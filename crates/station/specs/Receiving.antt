@@ -18,13 +18,13 @@ use Rattle.contents.specs.Kept.{keptColumns}
 use Rattle.paths.specs.declared.steps.Step.{Step}
 use Rattle.papers.specs.declared.checks.Papers.{Papers}
 use Rattle.semijoin.specs.Marks.{reducedBy}
-use Rattle.station.specs.Reducing.{stepCount, stepOf, placeOf}
+use Rattle.ends.specs.Reducing.{stepCount, stepOf, placeOf}
 use Rattle.station.specs.Calls.{leaves}
-use Rattle.station.specs.Ends.{Marked, appliedOf, hasArrived, usable}
-use Rattle.station.specs.Messages.{frontLength, runOf, secondOf, bodyOf, aboutOf, counted, soundValues}
-use Rattle.station.specs.declared.messages.About.{About}
-use Rattle.station.specs.declared.messages.About.the-variants as about
-use Rattle.station.specs.declared.ends.End.{End}
+use Rattle.ends.specs.Ends.{Marked, appliedOf, hasArrived, usable}
+use Rattle.ends.specs.Messages.{frontLength, runOf, secondOf, bodyOf, aboutOf, counted, soundValues}
+use Rattle.ends.specs.declared.messages.About.{About}
+use Rattle.ends.specs.declared.messages.About.the-variants as about
+use Rattle.ends.specs.declared.ends.End.{End}
 use Rattle.station.specs.declared.receiving.Received.{Received}
 
 -- an end and its store; an end, its marks and its store

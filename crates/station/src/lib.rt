@@ -1,9 +1,6 @@
 // The station end: an end is opened, makes value and row messages, and receives them. Tables, marks, store and messages are
 // lent at each call; what an end remembers between calls is in it.
-pub mod ends;
 pub mod making;
-pub mod messages;
 pub mod opening;
 pub mod receiving;
-pub mod reducing;
 mod rows;

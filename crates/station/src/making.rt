@@ -1,7 +1,7 @@
 // Making messages: the values of a step's right column, and the rows of a relation, from the marks of now.
-use crate::ends::End;
-use crate::reducing::Missing;
 use contents::envelope::Envelope;
+use ends::ends::End;
+use ends::reducing::Missing;
 use fields::refusals;
 use ground::Verdict;
 use papers::checks::Papers;
@@ -13,8 +13,8 @@ ghost use lib.ListN.{length};
 ghost use lib.Dec.{ltb};
 ghost use Rattle.contents.specs.Sites.{isAt};
 ghost use Rattle.ground.specs.Refusing.{judgement};
-ghost use Rattle.station.specs.Reducing.{stepCount};
-ghost use Rattle.station.specs.Ends.{Usable};
+ghost use Rattle.ends.specs.Reducing.{stepCount};
+ghost use Rattle.ends.specs.Ends.{Usable};
 ghost use Rattle.station.specs.Making.{sendTests, valuesWith, makeValuesOf, rowsWith, makeRowsOf, shownMade, madeIn};
 
 // The length written, or the refusal; then nothing was written.
@@ -33,8 +33,8 @@ fn judge_sending(program: Program, applied: [u32; 8], ours: bool, relation: u8, 
             position: 0,
         };
     }
-    let done = crate::ends::applied_of(applied, relation);
-    let missing = crate::reducing::missing_of(program, relation, done, n);
+    let done = ends::ends::applied_of(applied, relation);
+    let missing = ends::reducing::missing_of(program, relation, done, n);
     match missing {
         Missing::First(step) => Verdict::Refused {
             number: refusals::WAITING,
@@ -48,7 +48,7 @@ fn judge_sending(program: Program, applied: [u32; 8], ours: bool, relation: u8, 
 fn sends_step(envelope: Envelope, program: Program, site: u32, n: usize, relation: u8) -> bool
     ensures { λ r. ⌜ r ≡ (ltb n (stepCount program) && isAt envelope site relation) ⌝ }
 {
-    if crate::reducing::step_count(program) as usize <= n {
+    if ends::reducing::step_count(program) as usize <= n {
         return false;
     }
     contents::sites::is_at(envelope, site, relation)
@@ -70,7 +70,7 @@ fn values_with(
     let program = papers.program;
     let applied = end.applied;
     let n = step as usize;
-    let named = crate::reducing::step_of(program, n);
+    let named = ends::reducing::step_of(program, n);
     let right = named.right;
     let ours = sends_step(envelope, program, end.site, n, right.relation);
     let verdict = judge_sending(program, applied, ours, right.relation, n);
@@ -82,14 +82,14 @@ fn values_with(
                 right,
                 tables,
                 marks,
-                crate::messages::FRONT,
+                ends::messages::FRONT,
                 message,
             );
             match gathered {
                 Gathered::Refused { number, position } => Made::Refused { number, position },
                 Gathered::Length(count) => {
-                    crate::messages::put_front(message, end.run, step, count as u32);
-                    Made::Length(crate::messages::FRONT + count)
+                    ends::messages::put_front(message, end.run, step, count as u32);
+                    Made::Length(ends::messages::FRONT + count)
                 }
             }
         }
@@ -100,7 +100,7 @@ fn values_with(
 pub fn make_values(end: End, tables: &[u32], marks: &[u8], step: u32, message: &mut [u32]) -> Made
     ensures { λ r. ⌜ (r ≡ shownMade (makeValuesOf end (now (tables .entry)) (now (marks .entry)) step (length (now (message .entry))))) × (now (message .exit) ≡ madeIn (now (message .entry)) (makeValuesOf end (now (tables .entry)) (now (marks .entry)) step (length (now (message .entry))))) ⌝ }
 {
-    let read = crate::ends::usable_end(end, tables, marks.len());
+    let read = ends::ends::usable_end(end, tables, marks.len());
     let verdict = read.verdict;
     match verdict {
         Verdict::Refused { number, position } => Made::Refused { number, position },
@@ -134,7 +134,7 @@ fn rows_with(
     }
     let own = relation as u8;
     let ours = contents::sites::is_at(envelope, end.site, own);
-    let steps = crate::reducing::step_count(program);
+    let steps = ends::reducing::step_count(program);
     let verdict = judge_sending(program, applied, ours, own, steps as usize);
     match verdict {
         Verdict::Refused { number, position } => Made::Refused { number, position },
@@ -148,7 +148,7 @@ fn rows_with(
 pub fn make_rows(end: End, tables: &[u32], marks: &[u8], relation: u32, message: &mut [u32]) -> Made
     ensures { λ r. ⌜ (r ≡ shownMade (makeRowsOf end (now (tables .entry)) (now (marks .entry)) relation (length (now (message .entry))))) × (now (message .exit) ≡ madeIn (now (message .entry)) (makeRowsOf end (now (tables .entry)) (now (marks .entry)) relation (length (now (message .entry))))) ⌝ }
 {
-    let read = crate::ends::usable_end(end, tables, marks.len());
+    let read = ends::ends::usable_end(end, tables, marks.len());
     let verdict = read.verdict;
     match verdict {
         Verdict::Refused { number, position } => Made::Refused { number, position },

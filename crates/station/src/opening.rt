@@ -1,6 +1,6 @@
 // Opening an end: its papers are checked, and its marks set by the local operations of the relations that are here.
-use crate::ends::End;
 use contents::envelope::Envelope;
+use ends::ends::End;
 use fields::refusals;
 use ground::Verdict;
 use papers::checks::Papers;
@@ -9,7 +9,7 @@ ghost use mathlib.Core.Path.{_≡_};
 ghost use Rattle.ground.specs.Outcome.Outcome.{bad};
 ghost use Rattle.contents.specs.Sites.{isAt};
 ghost use Rattle.papers.specs.Checks.{GoodPapers};
-ghost use Rattle.station.specs.Ends.{startOf};
+ghost use Rattle.ends.specs.Ends.{startOf};
 ghost use Rattle.station.specs.Opening.{openWith, openOf, shownOpened, openedMarks, hereAt};
 
 // The end, or the refusal with the empty end beside it.
@@ -21,7 +21,7 @@ pub struct Opened {
 fn refused_opening(number: u8, position: usize) -> Opened
     ensures { λ r. ⌜ r ≡ shownOpened (bad number position) ⌝ }
 {
-    let end = crate::ends::no_end();
+    let end = ends::ends::no_end();
     Opened {
         verdict: Verdict::Refused { number, position },
         end: end,

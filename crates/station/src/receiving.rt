@@ -1,6 +1,6 @@
 // Receiving messages: the values of a step reduce its left relation; the rows of a relation go to the store.
-use crate::ends::End;
-use crate::messages::About;
+use ends::ends::End;
+use ends::messages::About;
 use fields::refusals;
 use ground::Verdict;
 use papers::checks::Papers;
@@ -14,10 +14,10 @@ ghost use lib.Dec.{ltb};
 ghost use Rattle.ground.specs.Tests.{pick};
 ghost use Rattle.contents.specs.Parts.{relationCount};
 ghost use Rattle.tables.specs.Rising.{isRising};
-ghost use Rattle.station.specs.Reducing.{stepCount};
+ghost use Rattle.ends.specs.Reducing.{stepCount};
 ghost use Rattle.station.specs.Calls.{leaves};
-ghost use Rattle.station.specs.Ends.{Usable, Marked};
-ghost use Rattle.station.specs.Messages.{frontLength, bodyOf};
+ghost use Rattle.ends.specs.Ends.{Usable, Marked};
+ghost use Rattle.ends.specs.Messages.{frontLength, bodyOf};
 ghost use Rattle.station.specs.Receiving.{
   Stored,
   Held,
@@ -95,7 +95,7 @@ fn not_next(message: &[u32], place: u32, done: u32) -> u8
     requires { ⌜ frontLength ≤ length (now message) ⌝ }
     ensures { λ r. ⌜ r ≡ pick (not (isRising (bodyOf (now (message .entry))))) 15 (pick (ltb place done) 16 17) ⌝ }
 {
-    if !tables::rising::is_rising(&message[crate::messages::FRONT..]) {
+    if !tables::rising::is_rising(&message[ends::messages::FRONT..]) {
         return refusals::NOT_SOUND;
     }
     if place < done {
@@ -120,16 +120,16 @@ fn take_values(
     let envelope = papers.envelope;
     let program = papers.program;
     let applied = end.applied;
-    let step = crate::reducing::step_of(program, n);
+    let step = ends::reducing::step_of(program, n);
     let left = step.left;
     if !contents::sites::is_at(envelope, end.site, left.relation) {
         return refused(end, refusals::NOT_OURS, 0);
     }
-    if !crate::messages::is_counted(message, 1) {
+    if !ends::messages::is_counted(message, 1) {
         return refused(end, refusals::NOT_SOUND, 0);
     }
-    let place = crate::reducing::place_of(program, left.relation, n);
-    let done = crate::ends::applied_of(applied, left.relation);
+    let place = ends::reducing::place_of(program, left.relation, n);
+    let done = ends::ends::applied_of(applied, left.relation);
     if place != done {
         let number = not_next(message, place, done);
         return refused(end, number, 0);
@@ -138,7 +138,7 @@ fn take_values(
         envelope,
         left,
         tables,
-        &message[crate::messages::FRONT..],
+        &message[ends::messages::FRONT..],
         marks,
     );
     match reduced {
@@ -180,7 +180,7 @@ fn take_rows(papers: Papers, end: End, store: &mut [u32], message: &[u32], relat
         return refused(end, refusals::NOT_OURS, 0);
     }
     let columns = contents::kept::kept_columns(envelope, relation);
-    if !crate::messages::is_counted(message, columns.count) {
+    if !ends::messages::is_counted(message, columns.count) {
         return refused(end, refusals::NOT_SOUND, 0);
     }
     if arrived[relation as usize] {
@@ -212,21 +212,17 @@ fn receive_with(
     requires { ⌜ Usable papers (now tables) (length (now marks)) ⌝ }
     ensures { λ r. ⌜ (r ≡ shownReceived (λ (h : Held). h .end) end (receiveWith papers end (now (tables .entry)) (now (marks .entry)) (now (store .entry)) (now (message .entry)))) × (now (marks .exit) ≡ receivedMarks (now (marks .entry)) (receiveWith papers end (now (tables .entry)) (now (marks .entry)) (now (store .entry)) (now (message .entry)))) × (now (store .exit) ≡ receivedStore (now (store .entry)) (receiveWith papers end (now (tables .entry)) (now (marks .entry)) (now (store .entry)) (now (message .entry)))) ⌝ }
 {
-    if message.len() < crate::messages::FRONT {
+    if message.len() < ends::messages::FRONT {
         return refused(end, refusals::ENDS_INSIDE, 0);
     }
-    if message[crate::messages::RUN] != end.run {
+    if message[ends::messages::RUN] != end.run {
         return refused(end, refusals::OTHER_RUN, 0);
     }
     let envelope = papers.envelope;
     let program = papers.program;
-    let steps = crate::reducing::step_count(program);
+    let steps = ends::reducing::step_count(program);
     let relations = ground::used::in_use(8, envelope.relation_count);
-    let about = crate::messages::speaks_of(
-        steps,
-        relations as u8,
-        message[crate::messages::SECOND],
-    );
+    let about = ends::messages::speaks_of(steps, relations as u8, message[ends::messages::SECOND]);
     match about {
         About::Nothing => refused(end, refusals::NOT_OURS, 0),
         About::Step(n) => take_values(papers, end, tables, marks, message, n),
@@ -244,7 +240,7 @@ pub fn receive(
 ) -> Received
     ensures { λ r. ⌜ (r ≡ shownReceived (λ (h : Held). h .end) end (receiveOf end (now (tables .entry)) (now (marks .entry)) (now (store .entry)) (now (message .entry)))) × (now (marks .exit) ≡ receivedMarks (now (marks .entry)) (receiveOf end (now (tables .entry)) (now (marks .entry)) (now (store .entry)) (now (message .entry)))) × (now (store .exit) ≡ receivedStore (now (store .entry)) (receiveOf end (now (tables .entry)) (now (marks .entry)) (now (store .entry)) (now (message .entry)))) ⌝ }
 {
-    let read = crate::ends::usable_end(end, tables, marks.len());
+    let read = ends::ends::usable_end(end, tables, marks.len());
     let verdict = read.verdict;
     match verdict {
         Verdict::Refused { number, position } => refused(end, number, position),

@@ -14,7 +14,7 @@ ghost use Rattle.contents.specs.Parts.{relationCount};
 ghost use Rattle.tables.specs.Offsets.{rowCount};
 ghost use Rattle.tables.specs.Shape.{shaped};
 ghost use Rattle.tables.specs.Rows.{wordOver, keptOver};
-ghost use Rattle.station.specs.Messages.{frontLength, rowMessage};
+ghost use Rattle.ends.specs.Messages.{frontLength, rowMessage};
 ghost use Rattle.station.specs.Making.{sentRows, fitted, shownMade, madeIn};
 
 // How many rows are kept.
@@ -69,7 +69,7 @@ fn put_rows(
     ensures { λ r. ⌜ now (message .exit) ≡ sets (now (message .entry)) frontLength (each (λ i. map (wordOver extent (now (tables .entry)) i) (take count numbers)) (filter (keptOver extent (now (marks .entry))) (below (extent .rows)))) ⌝ }
 {
     let width = ground::used::in_use(8, count);
-    let mut at: usize = crate::messages::FRONT;
+    let mut at: usize = ends::messages::FRONT;
     let mut row: usize = 0;
     while row < extent.rows {
         let kept = tables::rows::is_kept(marks, extent, row);
@@ -98,17 +98,17 @@ pub(crate) fn put_row_message(
     let numbers = columns.numbers;
     let count = count_kept(marks, extent);
     let width = ground::used::in_use(8, columns.count);
-    let length = crate::messages::FRONT + count * width;
+    let length = ends::messages::FRONT + count * width;
     if message.len() < length {
         return Made::Refused {
             number: refusals::TOO_SHORT,
             position: 0,
         };
     }
-    crate::messages::put_front(
+    ends::messages::put_front(
         message,
         run,
-        crate::messages::ROWS_FROM + relation as u32,
+        ends::messages::ROWS_FROM + relation as u32,
         count as u32,
     );
     put_rows(tables, marks, extent, numbers, columns.count, message);

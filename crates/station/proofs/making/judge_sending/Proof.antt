@@ -4,8 +4,8 @@ use Rattle.station.proofs.making.judge_sending.Statement.{statement}
 use Rattle.station.proofs.making.judge_sending.Tie as tie
 use Rattle.station.proofs.making.judge_sending.Reads as reads
 use Rattle.station.proofs.making.judge_sending.Lts as lts
-use Rattle.station.proofs.ends.applied_of.Reads as applied-of-reads
-use Rattle.station.proofs.reducing.missing_of.Reads as missing-of-reads
+use Rattle.ends.proofs.ends.applied_of.Reads as applied-of-reads
+use Rattle.ends.proofs.reducing.missing_of.Reads as missing-of-reads
 
 -- src/making.rt:37:9
 returns : tie.Need-returns

@@ -1,11 +1,11 @@
-use Rattle.station.proofs.EndLaws.{usable-known}
+use Rattle.ends.proofs.EndLaws.{usable-known}
 use Rattle.station.proofs.MakingCodeLaws.{make-refused, make-with}
 use borrow.Author.Needs.{needs}
 use Rattle.station.proofs.making.make_values.Statement.{statement}
 use Rattle.station.proofs.making.make_values.Tie as tie
 use Rattle.station.proofs.making.make_values.Reads as reads
 use Rattle.station.proofs.making.make_values.Lts as lts
-use Rattle.station.proofs.ends.usable_end.Reads as usable-end-reads
+use Rattle.ends.proofs.ends.usable_end.Reads as usable-end-reads
 use Rattle.station.proofs.making.values_with.Reads as values-with-reads
 
 -- src/making.rt:108:9

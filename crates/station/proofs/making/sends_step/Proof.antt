@@ -5,7 +5,7 @@ use Rattle.station.proofs.making.sends_step.Tie as tie
 use Rattle.station.proofs.making.sends_step.Reads as reads
 use Rattle.station.proofs.making.sends_step.Lts as lts
 use Rattle.contents.proofs.sites.is_at.Reads as is-at-reads
-use Rattle.station.proofs.reducing.step_count.Reads as step-count-reads
+use Rattle.ends.proofs.reducing.step_count.Reads as step-count-reads
 
 -- src/making.rt:57:8
 step-count-requires : tie.Need-step-count-requires

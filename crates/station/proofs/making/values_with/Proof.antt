@@ -8,8 +8,8 @@ use Rattle.station.proofs.making.values_with.Lts as lts
 use Rattle.tables.proofs.values.values_into.Reads as values-into-reads
 use Rattle.station.proofs.making.judge_sending.Reads as judge-sending-reads
 use Rattle.station.proofs.making.sends_step.Reads as sends-step-reads
-use Rattle.station.proofs.messages.put_front.Reads as put-front-reads
-use Rattle.station.proofs.reducing.step_of.Reads as step-of-reads
+use Rattle.ends.proofs.messages.put_front.Reads as put-front-reads
+use Rattle.ends.proofs.reducing.step_of.Reads as step-of-reads
 
 -- src/making.rt:79:9
 step-of-requires : tie.Need-step-of-requires

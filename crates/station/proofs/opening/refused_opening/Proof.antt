@@ -4,7 +4,7 @@ use Rattle.station.proofs.opening.refused_opening.Statement.{statement}
 use Rattle.station.proofs.opening.refused_opening.Tie as tie
 use Rattle.station.proofs.opening.refused_opening.Reads as reads
 use Rattle.station.proofs.opening.refused_opening.Lts as lts
-use Rattle.station.proofs.ends.no_end.Reads as no-end-reads
+use Rattle.ends.proofs.ends.no_end.Reads as no-end-reads
 
 -- src/opening.rt:24:9
 no-end-requires : tie.Need-no-end-requires

@@ -1,4 +1,4 @@
-use Rattle.station.proofs.EndLaws.{usable-known}
+use Rattle.ends.proofs.EndLaws.{usable-known}
 use Rattle.station.proofs.ReceivingCodeLaws.{receive-refused, receive-with}
 use native.Mathlib.Omega.{arith}
 use borrow.Author.Needs.{needs}

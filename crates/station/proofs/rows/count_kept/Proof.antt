@@ -1,7 +1,7 @@
 use Prim.Native.Nat.{_-_}
 use mathlib.Core.Logic.{⊎-elim}
 use Rattle.tables.specs.Rows.{keptOver}
-use Rattle.station.proofs.CountingLaws.{Counting, counting-start, counting-most, counting-done}
+use Rattle.ends.proofs.CountingLaws.{Counting, counting-start, counting-most, counting-done}
 use Rattle.station.proofs.RowCodeLaws.{kept-counted, kept-passed}
 use borrow.Author.Needs.{needs}
 use native.Mathlib.Omega.{arith}

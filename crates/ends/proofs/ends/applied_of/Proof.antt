@@ -1,0 +1,26 @@
+use native.Mathlib.Omega.{arith}
+use Rattle.ends.proofs.EndLaws.{applied-none}
+use borrow.Author.Needs.{needs}
+use Rattle.ends.proofs.ends.applied_of.Statement.{statement}
+use Rattle.ends.proofs.ends.applied_of.Tie as tie
+use Rattle.ends.proofs.ends.applied_of.Reads as reads
+use Rattle.ends.proofs.ends.applied_of.Lts as lts
+
+-- src/ends.rt:152:9
+returns : tie.Need-returns
+returns c = applied-none (c .before .args .t1) (c .before .args .relation) (omega arith)
+
+-- src/ends.rt:154:5
+mul-result : tie.Need-mul-result
+mul-result c = search needs
+
+-- src/ends.rt:154:5
+array-read-result : tie.Need-array-read-result
+array-read-result c = search needs
+
+-- src/ends.rt:148:1
+returns-2 : tie.Need-returns-2
+returns-2 c = search needs
+
+pub applied-of-spec : {M : Type 1} → statement M
+applied-of-spec = tie.close (tie.spec returns mul-result array-read-result returns-2)
