@@ -1,7 +1,7 @@
 -- The marks of all relations after one step: those of its relation are sieved, and nothing else changes.
 use mathlib.Core.Path.{_≡_, sym, ap, _∙_}
 use mathlib.Core.List.{List, []}
-use Prim.Native.Nat.{ℕ, _+_, _≤_, _<_}
+use Prim.Native.Nat.{ℕ, _+_, _<_}
 use native.Mathlib.Omega.{arith}
 use lib.ListN.{length, getD, take, drop}
 use lib.Seq.{sets, length-sets}
@@ -15,19 +15,11 @@ use Rattle.tables.specs.Offsets.{countIn, firstMark, rowCount, rowsAt, marksAt,
 use Rattle.tables.specs.Rising.{among}
 use Rattle.tables.specs.Rows.{keptOf, keptRows}
 use Rattle.semijoin.specs.Marks.{sieved, reducedBy, removedBy, sievedOver, removedOver}
-use Rattle.ground.proofs.ListPartLaws.{none, part-length, part-stand, part-before, part-behind}
+use Rattle.ground.proofs.ListPartLaws.{none, part-stand, part-before, part-behind}
 use Rattle.tables.proofs.OffsetLaws.{count-outside, marks-end, rowsAt-length}
 use Rattle.semijoin.proofs.MarkLaws.{occurs, sieved-length, sieved-at, kept-sieved, removed-kept, sieved-alike}
 
 module _ (e : Envelope) (words : List ℕ) where
-  -- ---- a relation's part of the marks
-
-  pub marks-length : (marks : List ℕ) (r : ℕ) → r < relationCount e → rowCount e words ≤ length marks
-      → length (marksAt e words r marks) ≡ countIn e words r
-  unfolding marksAt marksOver
-  marks-length marks r h k =
-      part-length (firstMark e words r) (countIn e words r) marks (omega (arith, marks-end e words r (relationCount e) h))
-
   -- ---- marks written with as many as a relation has of them
 
   module _ (marks : List ℕ) (a : ℕ) (new : List ℕ) (same : length new ≡ length (marksAt e words a marks)) where

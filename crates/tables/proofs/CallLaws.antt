@@ -1,6 +1,6 @@
 -- What the calls on tables give: each refusal where it is due, and the effect where none is. The floors above go by these and
 -- unfold nothing.
-use mathlib.Core.Path.{_≡_, refl, ap, _∙_}
+use mathlib.Core.Path.{_≡_, refl, _∙_}
 use mathlib.Core.Bool.{true, false, not}
 use mathlib.Core.List.{List, [], _∷_, _++_, List·Memᴰ}
 use Prim.Native.Nat.{ℕ, _+_, _≤_, _<_}
@@ -15,11 +15,10 @@ use Rattle.fields.specs.Refusals.{wrongShape, tooShort, notOurs}
 use Rattle.entries.specs.declared.places.Place.{Place}
 use Rattle.contents.specs.declared.envelope.Envelope.{Envelope}
 use Rattle.paths.specs.Steps.{isPlace}
-use Rattle.tables.specs.Offsets.{countIn, rowCount, extentOf}
+use Rattle.tables.specs.Offsets.{rowCount}
 use Rattle.tables.specs.Shape.{shaped, marksTests, columnTests}
 use Rattle.tables.specs.Rising.{among}
 use Rattle.tables.specs.Values.{valuesOf, risingValues, occursIn, roomTest, valuesOutcome, gatheredOf, gatheredIn}
-use Rattle.tables.specs.declared.offsets.Extent.{Extent}
 use Rattle.tables.specs.declared.values.Gathered.the-variants as g
 
 -- ---- a call that begins with 10, 11: of any tests and effect behind them
@@ -102,8 +101,3 @@ module _ (e : Envelope) (a : Place) (words marks : List ℕ) (x : ℕ) where
       → occursIn e words marks a x ≡ among (valuesOf e words marks a) x
   unfolding occursIn
   occurs-there s h c = rw (s, le-leb (rowCount e words) (length marks) h, c)
-
--- ---- a relation, by its extent
-
-pub rows-by : (e : Envelope) (words : List ℕ) (x : Extent) (r : ℕ) → x ≡ extentOf e words r → x .rows ≡ countIn e words r
-rows-by e words x r f = ap (λ (y : Extent). y .rows) f

@@ -1,14 +1,13 @@
 -- One row at an extent, its word and its mark; and marks beside the rows of one table: which rows are kept.
 use mathlib.Core.Path.{_≡_, refl, sym, ap, _∙_}
 use mathlib.Core.Bool.{Bool, true, false, false≢true}
-use mathlib.Core.List.{List, [], _∷_, _++_, map, List·Memᴰ, List·Memᴰ·head, List·Memᴰ·tail, List·Memᴰ·cases-cons}
+use mathlib.Core.List.{List, [], _∷_, map, List·Memᴰ, List·Memᴰ·head, List·Memᴰ·tail, List·Memᴰ·cases-cons}
 use mathlib.Core.Logic.{_⊎_, inl, inr}
 use Prim.Native.Nat.{ℕ, zero, suc, _+_, _*_, _≤_, _<_, zero-le, suc-le-suc}
 use native.Mathlib.Nat.{le-of-suc-le-suc, not-suc-le-zero, add-zero, mul-le-mul-right, suc-mul}
-use native.Mathlib.Numerals.{add-one}
 use native.Mathlib.Omega.{arith}
 use lib.ListN.{length, getD, take, drop}
-use lib.Seq.{take-suc, length-take-le, drop-drop, getD-take, getD-drop}
+use lib.Seq.{drop-drop, getD-take, getD-drop}
 use Rattle.ground.specs.Tests.{pick}
 use Rattle.ground.specs.Lists.{consIf, filter, numbersFrom}
 use Rattle.paths.specs.Meaning.{Row, Table, wordIn}
@@ -134,31 +133,3 @@ kept-test p (row ∷ t) = go (p row) (kept-test p t)
     go : (b : Bool) → keptOf rest t ≡ filter p t → consIf (isKept (pick b 1 0)) row (keptOf rest t) ≡ consIf b row (filter p t)
     go true e = rw e
     go false e = e
-
-pub kept-append : (a b : List ℕ) (s t : Table) → length a ≡ length s → keptOf (a ++ b) (s ++ t) ≡ keptOf a s ++ keptOf b t
-unfolding keptOf
-kept-append [] b [] t h = refl
-kept-append [] b (row ∷ s) t h = absurd (omega arith)
-kept-append (m ∷ a) b [] t h = absurd (omega arith)
-kept-append (m ∷ a) b (row ∷ s) t h = go (isKept m) (kept-append a b s t (omega arith))
-  where
-    go : (c : Bool) → keptOf (a ++ b) (s ++ t) ≡ keptOf a s ++ keptOf b t
-        → consIf c row (keptOf (a ++ b) (s ++ t)) ≡ consIf c row (keptOf a s) ++ keptOf b t
-    go true e = rw e
-    go false e = e
-
--- ---- one row more, as a loop comes to it
-
-module _ (ms : List ℕ) (t : Table) (i : ℕ) (h : i < length ms) (k : i < length t) where
-  long : length (take i ms) ≡ length (take i t)
-  long = length-take-le i ms (omega arith) ∙ sym (length-take-le i t (omega arith))
-
-  marks-more : take (i + 1) ms ≡ take i ms ++ (getD ms i 0 ∷ [])
-  marks-more = rw (add-one i) (take-suc ms i 0 h)
-
-  table-more : take (i + 1) t ≡ take i t ++ (getD t i [] ∷ [])
-  table-more = rw (add-one i) (take-suc t i [] k)
-
-  pub kept-more : keptOf (take (i + 1) ms) (take (i + 1) t) ≡ keptOf (take i ms) (take i t) ++ consIf (isKept (getD ms i 0)) (getD t i []) []
-  unfolding keptOf
-  kept-more = rw (marks-more, table-more) (kept-append (take i ms) (getD ms i 0 ∷ []) (take i t) (getD t i [] ∷ []) long)
