@@ -40,7 +40,7 @@ given e =
       widths = map (widthOf e) (below 8);
     }
 
--- relation r with n rows and one column with a new count; each other column of it by Y
+-- a column's relation with n rows, the column with a new count, each other column of the relation by Y
 unfoldable pub shrunk : Profile → Place → ℕ → ℕ → Profile
 shrunk p a n count =
     record {

@@ -1,5 +1,5 @@
 // A profile: the estimated rows of each relation and the distinct count of each column, and the width of each relation.
-// Whatever struct comes in has an answer.
+// What goes through Y asks that no row and no count is above 1,000,000, so that no sum wraps.
 use contents::envelope::Envelope;
 use entries::places::Place;
 use entries::relations::Column;
@@ -239,7 +239,7 @@ impl Profile {
         }
     }
 
-    // What a step leaves. Its rows do not grow.
+    // What a step leaves, where that is at most 1,000,000 rows, as it is where the step loses rows or none.
     pub fn after_step(self, envelope: Envelope, step: Step) -> Profile
         requires { ⌜ Low (self .rows) × Low (self .counts) × (rowsAfter envelope self step ≤ 1000000) ⌝ }
         ensures { λ r. ⌜ r ≡ afterStep envelope self step ⌝ }

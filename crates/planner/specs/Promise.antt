@@ -12,6 +12,7 @@ use lib.ListN.{length, getD, take}
 use lib.Dec.{eqb}
 use Rattle.ground.specs.Lists.{Every, filter, below, sum}
 use Rattle.ground.specs.Order.{Ordered}
+use Rattle.ground.specs.declared.Verdict.the-variants.{Taken}
 use Rattle.contents.specs.Sites.{isAt, holds}
 use Rattle.contents.specs.declared.envelope.Envelope.{Envelope}
 use Rattle.paths.specs.Steps.{legal, legalSteps, StepBefore}
@@ -120,6 +121,7 @@ stepsIn x = map (λ (l : Line). l .step) (linesIn x)
 -- the plan has the steps and the site that are promised, each step with its benefit and cost in the profile that the steps
 -- before it leave
 pub record PlanKept (k : Costs) (e : Envelope) (x : Plan) : Type 0 where
+  pub taken : x .verdict ≡ Taken
   pub promise : PlanPromise k e
   pub steps : stepsIn x ≡ planned k e .steps
   pub site : x .site ≡ planned k e .site
