@@ -14,4 +14,6 @@ pub mod StoreLaws
 pub mod HeldLaws
 pub mod WalkingLaws
 pub mod StoreCodeLaws
+pub mod AssemblyLaws
 pub mod AssemblyCodeLaws
+pub mod DeliveredLaws
