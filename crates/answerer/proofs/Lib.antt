@@ -3,6 +3,7 @@ pub mod Examples
 pub mod StoreExamples
 pub mod EachLaws
 pub mod BeginningLaws
+pub mod NumberingLaws
 pub mod SourceLaws
 pub mod SourceCodeLaws
 pub mod BeginningCodeLaws
