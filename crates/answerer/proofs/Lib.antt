@@ -18,3 +18,4 @@ pub mod StoreCodeLaws
 pub mod AssemblyLaws
 pub mod AssemblyCodeLaws
 pub mod DeliveredLaws
+pub mod Promised
