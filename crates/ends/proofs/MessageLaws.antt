@@ -1,11 +1,11 @@
 -- The laws of messages: what is made is understood as what it was.
 use mathlib.Core.Path.{_≡_, refl, ap, sym, _∙_}
 use mathlib.Core.Bool.{Bool, true, false, _&&_}
-use mathlib.Core.List.{List, [], _∷_, _++_}
+use mathlib.Core.List.{List, [], _∷_}
 use Prim.Native.Nat.{ℕ, _+_, _*_, _-_, _≤_, _<_}
 use native.Mathlib.Nat.{zero-mul, suc-mul}
 use native.Mathlib.Omega.{arith}
-use lib.ListN.{length, getD, take, drop, length-append}
+use lib.ListN.{length, length-append}
 use lib.Seq.{take-at, drop-at}
 use lib.Dec.{ltb, leb}
 use borrow.Author.Tests.{lt-ltb, le-ltb, le-leb, lt-leb, eq-eqb, ltb-true, leb-true}
@@ -15,8 +15,7 @@ use Rattle.ground.proofs.OutcomeLaws.{never}
 use Rattle.ground.proofs.TestLaws.{and-left, and-right, and-both}
 use Rattle.paths.specs.Meaning.{Row, Table, rowsIn}
 use Rattle.tables.specs.Rising.{isRising}
-use Rattle.ends.specs.Messages.{frontLength, valueMessage, rowMessage, runOf, secondOf, countOf, bodyOf, aboutOf, counted, soundValues, rowsOf}
-use Rattle.ends.specs.declared.messages.About.{About}
+use Rattle.ends.specs.Messages.{frontLength, valueMessage, rowMessage, runOf, secondOf, bodyOf, aboutOf, counted, soundValues, rowsOf}
 use Rattle.ends.specs.declared.messages.About.the-variants.{Step, Rows, Nothing}
 
 -- ---- what the second word speaks of

@@ -22,7 +22,7 @@ use Rattle.papers.specs.declared.programs.Program.{Program}
 use Rattle.ends.specs.Reducing.{stepCount, stepOf, reduces, reducing, placeOf, isMissing, firstMissing, missingIn, missingOf}
 use Rattle.ends.specs.declared.reducing.Missing.{Missing}
 use Rattle.ends.specs.declared.reducing.Missing.the-variants.{First, None}
-use Rattle.ends.proofs.CountingLaws.{Counting, counting-yes, counting-no, counting-done, counting-found, counting-less, counting-most}
+use Rattle.ends.proofs.CountingLaws.{Counting, counting-yes, counting-no, counting-done, counting-found, counting-less}
 
 module _ (steps : List Step) (count r n end : ℕ) (e : end ≡ min n (min 156 count)) where
   all-of : length steps ≡ 156 → reducing (take count steps) r n ≡ filter (reduces (take count steps) r) (below end)

@@ -1,14 +1,14 @@
 -- A sound end: its papers are taken as they stand, so that with tables of the shape and marks enough a call works on them; the
 -- relations of its program's steps have their places.
 use mathlib.Core.Path.{_≡_, refl, ap, sym, _∙_}
-use mathlib.Core.Bool.{Bool, true, false, false≢true}
+use mathlib.Core.Bool.{true, false, false≢true}
 use mathlib.Core.List.{List, [], _∷_, List·Memᴰ, List·Memᴰ·tail, Memᴰ·append-left}
 use mathlib.Core.Logic.{_⊎_, inl, inr}
-use Prim.Native.Nat.{ℕ, _+_, _≤_, _<_, min}
+use Prim.Native.Nat.{ℕ, _≤_, _<_, min}
 use native.Mathlib.Omega.{arith}
 use lib.ListN.{length, getD}
 use borrow.Author.Tests.{ltb-true, ltb-false, eq-eqb}
-use Rattle.ground.specs.Lists.{filter, any, below}
+use Rattle.ground.specs.Lists.{filter, below}
 use Rattle.ground.specs.Outcome.{Outcome, next}
 use Rattle.ground.specs.Outcome.Outcome.{good, bad}
 use Rattle.ground.specs.Refusing.{test, judged}
@@ -28,7 +28,7 @@ use Rattle.tables.specs.Offsets.{rowCount}
 use Rattle.tables.specs.Shape.{shaped, marksTests}
 use Rattle.tables.proofs.JudgedLaws.{marks-pass}
 use Rattle.ends.specs.Reducing.{stepCount, stepOf, reduces, reducing, placeOf}
-use Rattle.ends.specs.Ends.{appliedOf, overAt, overApplied, soundEnd, usable, papersIn, Sound}
+use Rattle.ends.specs.Ends.{overAt, overApplied, soundEnd, usable, papersIn, Sound}
 use Rattle.ends.specs.declared.ends.End.{End}
 use Rattle.ends.proofs.CountingLaws.{counting-less}
 

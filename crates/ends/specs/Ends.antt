@@ -13,7 +13,6 @@ use Rattle.ground.specs.Outcome.Outcome.{good}
 use Rattle.ground.specs.Refusing.{test, judged}
 use Rattle.fields.specs.Refusals.{beyondLimit}
 use Rattle.contents.specs.Parts.{relationCount, noEnvelope}
-use Rattle.contents.specs.declared.envelope.Envelope.{Envelope}
 use Rattle.papers.specs.Programs.{noProgram}
 use Rattle.papers.specs.Checks.{papersOf, GoodPapers}
 use Rattle.papers.specs.declared.programs.Program.{Program}

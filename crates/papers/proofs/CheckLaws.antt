@@ -8,12 +8,11 @@ use Rattle.ground.specs.declared.Verdict.the-variants.{Taken, Refused}
 use Rattle.ground.proofs.OutcomeLaws.{taken-is, refused-is, next-good}
 use Rattle.contents.specs.Parts.{noEnvelope}
 use Rattle.envelopes.specs.Envelope.{checkEnvelope, shownEnvelope, envelopeBytes}
-use Rattle.envelopes.specs.Rules.{Within, tidy}
 use Rattle.contents.specs.declared.envelope.Envelope.{Envelope}
 use Rattle.envelopes.specs.declared.reading.EnvelopeRead.{EnvelopeRead}
 use Rattle.envelopes.proofs.ReadingLaws.{read-taken, read-refused}
 use Rattle.envelopes.proofs.ExactEnvelope.{check-sound, check-complete}
-use Rattle.papers.specs.Programs.{noProgram, programAgainst, programBytes, readProgram, checkProgram, shownProgram, Acceptable, tidyProgram}
+use Rattle.papers.specs.Programs.{noProgram, programAgainst, programBytes, readProgram, checkProgram, shownProgram}
 use Rattle.papers.specs.Checks.{noPapers, papersOf, shownPapers, GoodPapers}
 use Rattle.papers.specs.declared.programs.Program.{Program}
 use Rattle.papers.specs.declared.programs.ProgramRead.{ProgramRead}

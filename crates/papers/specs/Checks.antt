@@ -1,6 +1,5 @@
 -- "An envelope, then a program, not given as bytes, also inside an end, is checked first as its bytes would be, with the same
 -- number and position." Both papers at once, as they read back.
-use Prim.Native.Nat.{ℕ}
 use mathlib.Core.Path.{_≡_}
 use Rattle.ground.specs.Outcome.{Outcome, next, verdictOf, valueOf}
 use Rattle.ground.specs.Outcome.Outcome.{good}

@@ -4,16 +4,15 @@
 -- refused as cut short, of another run, or not sound.
 use mathlib.Core.Path.{_≡_, refl, ap, sym, _∙_}
 use mathlib.Core.Bool.{Bool, true, false, not}
-use mathlib.Core.List.{List, [], _∷_, _++_, List·Memᴰ}
+use mathlib.Core.List.{List, [], _∷_, List·Memᴰ}
 use mathlib.Core.Logic.{_⊎_, inl, inr}
 use Prim.Native.Nat.{ℕ, _+_, _≤_, _<_}
 use native.Mathlib.Omega.{arith}
-use lib.ListN.{length, getD}
+use lib.ListN.{length}
 use lib.Dec.{ltb, eqb}
 use borrow.Author.Tests.{le-ltb, eq-eqb}
-use Rattle.ground.specs.Outcome.{Outcome, next}
 use Rattle.ground.specs.Outcome.Outcome.{good, bad}
-use Rattle.ground.specs.Refusing.{Test, test, judged}
+use Rattle.ground.specs.Refusing.{Test, test}
 use Rattle.ground.proofs.OutcomeLaws.{next-bad, good-bad}
 use Rattle.ground.proofs.RefusingLaws.{judged-insert, refusal-listed}
 use Rattle.fields.specs.Refusals.{tooShort, notOurs, notSound, alreadyTaken, stepMissing}
@@ -26,7 +25,7 @@ use Rattle.tables.specs.Shape.{shaped}
 use Rattle.tables.specs.Values.{risingValues}
 use Rattle.ends.specs.Reducing.{stepCount, stepOf, placeOf}
 use Rattle.ends.specs.Ends.{Marked, appliedOf, hasArrived}
-use Rattle.ends.specs.Messages.{frontLength, valueMessage, rowMessage, runOf, secondOf, aboutOf, counted, soundValues}
+use Rattle.ends.specs.Messages.{frontLength, rowMessage, runOf, secondOf, aboutOf, counted, soundValues}
 use Rattle.station.specs.Making.{sentRows}
 use Rattle.station.specs.Receiving.{Stored, Held, valuesTaken, rowsTaken, taken, receiveWith}
 use Rattle.ends.specs.declared.messages.About.{About}
@@ -36,7 +35,7 @@ use Rattle.ends.proofs.EndLaws.{here-below}
 use Rattle.ends.proofs.MessageLaws.{about-step, about-rows, value-run, value-second, row-run, row-second, value-front, row-front}
 use Rattle.station.proofs.MadeLaws.{values-sound, rows-counted}
 use Rattle.station.proofs.MakingLaws.{ValuesMade, RowsMade}
-use Rattle.station.proofs.ReceivingLaws.{stepTests, stepEffect, step-judged, rowsTests, rowsEffect, rows-judged}
+use Rattle.station.proofs.ReceivingLaws.{stepEffect, step-judged, rowsEffect, rows-judged}
 
 module _ (q : Papers) (y : End) (others those store m : List ℕ) where
   -- a message of this run, by what it speaks of

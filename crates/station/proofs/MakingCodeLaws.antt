@@ -8,8 +8,8 @@ use native.Mathlib.Omega.{arith}
 use lib.ListN.{length, getD, set}
 use lib.Seq.{sets, length-sets, set-comm}
 use lib.Dec.{ltb}
-use borrow.Author.Tests.{ltb-true, lt-ltb, le-ltb, not-false}
-use Rattle.ground.specs.Outcome.{Outcome, next}
+use borrow.Author.Tests.{ltb-true, lt-ltb, le-ltb}
+use Rattle.ground.specs.Outcome.{Outcome}
 use Rattle.ground.specs.Outcome.Outcome.{good, bad}
 use Rattle.ground.specs.Refusing.{Test, test, judged, judgement}
 use Rattle.ground.specs.declared.Verdict.{Verdict}

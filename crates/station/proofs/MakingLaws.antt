@@ -1,34 +1,31 @@
 -- What making a message says: where it is taken, its facts; where it is refused, by which number, and that nothing changed.
-use mathlib.Core.Path.{_≡_, refl, ap, sym, _∙_}
-use mathlib.Core.Bool.{Bool, true, false, not, _&&_}
-use mathlib.Core.List.{List, [], _∷_, _++_, List·Memᴰ, List·Memᴰ·head, List·Memᴰ·tail, Memᴰ·append-left, Memᴰ·append-right}
+use mathlib.Core.Path.{_≡_, ap, sym, _∙_}
+use mathlib.Core.Bool.{Bool, true, _&&_}
+use mathlib.Core.List.{List, [], _∷_, List·Memᴰ, List·Memᴰ·tail, Memᴰ·append-left}
 use mathlib.Core.Logic.{_⊎_, inl, inr}
 use Prim.Native.Nat.{ℕ, _≤_, _<_}
-use native.Mathlib.Omega.{arith}
 use lib.ListN.{length, getD}
 use lib.Dec.{ltb}
 use borrow.Author.Tests.{ltb-true, ltb-false, not-false}
-use Rattle.ground.specs.Outcome.{Outcome, next}
+use Rattle.ground.specs.Outcome.{Outcome}
 use Rattle.ground.specs.Outcome.Outcome.{good, bad}
-use Rattle.ground.specs.Refusing.{Test, test, judged}
+use Rattle.ground.specs.Refusing.{test, judged}
 use Rattle.ground.proofs.OutcomeLaws.{next-good, good-bad}
 use Rattle.ground.proofs.RefusingLaws.{judged-good, judged-number}
 use Rattle.ground.proofs.TestLaws.{and-left, and-right}
 use Rattle.fields.specs.Refusals.{tooShort, waiting, notOurs}
 use Rattle.contents.specs.Sites.{isAt}
-use Rattle.papers.specs.Checks.{papersOf}
 use Rattle.papers.specs.declared.programs.Program.{Program}
 use Rattle.papers.specs.declared.checks.Papers.{Papers}
 use Rattle.tables.specs.Offsets.{rowCount}
 use Rattle.tables.specs.Shape.{shaped}
 use Rattle.tables.specs.Values.{risingValues}
-use Rattle.ends.specs.Reducing.{stepCount, stepOf, placeOf, isMissing, firstMissing}
+use Rattle.ends.specs.Reducing.{stepCount, stepOf, placeOf, isMissing}
 use Rattle.ends.specs.Ends.{appliedOf, usable, Usable, papersIn, Sound}
 use Rattle.ends.specs.Messages.{valueMessage, rowMessage}
 use Rattle.station.specs.Making.{sendTests, fitted, valuesWith, makeValuesOf, sentRows, rowsWith, makeRowsOf, shownMade, madeIn}
 use Rattle.ends.specs.declared.ends.End.{End}
-use Rattle.station.specs.declared.making.Made.{Made}
-use Rattle.station.specs.declared.making.Made.the-variants.{Length, Refused}
+use Rattle.station.specs.declared.making.Made.the-variants.{Refused}
 use Rattle.station.proofs.CallLaws.{each-passes, leaves-refused}
 use Rattle.ends.proofs.EndLaws.{usable-is}
 use Rattle.ends.proofs.SoundLaws.{ToldFirst, call-number, sound-call}

@@ -1,17 +1,17 @@
 -- What an opening says: where it is taken, its facts; where it is refused, by which number, and that nothing changed. An opened
 -- end is sound.
-use mathlib.Core.Path.{_≡_, refl, ap, sym, _∙_}
-use mathlib.Core.Bool.{Bool, true, false, not}
+use mathlib.Core.Path.{_≡_, refl, ap, sym}
+use mathlib.Core.Bool.{true, not}
 use mathlib.Core.List.{List, [], _∷_, List·Memᴰ}
 use mathlib.Core.Logic.{_⊎_, inl, inr}
-use Prim.Native.Nat.{ℕ, _≤_, _<_}
+use Prim.Native.Nat.{ℕ, _≤_}
 use native.Mathlib.Omega.{arith}
 use lib.ListN.{length, getD, replicate, getD-replicate, List·getD-eq-default}
 use lib.Dec.{ltb}
 use borrow.Author.Tests.{ltb-false, le-ltb, not-false}
-use Rattle.ground.specs.Outcome.{Outcome, next, verdictOf}
+use Rattle.ground.specs.Outcome.{verdictOf}
 use Rattle.ground.specs.Outcome.Outcome.{good, bad}
-use Rattle.ground.specs.Refusing.{Test, test, judged}
+use Rattle.ground.specs.Refusing.{Test, test}
 use Rattle.ground.specs.declared.Verdict.the-variants.{Refused}
 use Rattle.ground.proofs.CountLaws.{split}
 use Rattle.ground.proofs.OutcomeLaws.{next-good, next-bad}
@@ -30,7 +30,6 @@ use Rattle.station.specs.Calls.{leaves}
 use Rattle.ends.specs.Ends.{Marked, startOf, noEnd, Sound}
 use Rattle.station.specs.Opening.{openWith, openOf, shownOpened, openedMarks}
 use Rattle.ends.specs.declared.ends.End.{End}
-use Rattle.station.specs.declared.opening.Opened.{Opened}
 use Rattle.station.proofs.CallLaws.{each-passes, leaves-refused}
 
 -- ---- taken

@@ -1,15 +1,15 @@
 -- What receiving a message says: where it is taken, its facts; where it is refused, by which number, and that nothing changed.
 use mathlib.Core.Path.{_≡_, refl, ap, sym, _∙_}
-use mathlib.Core.Bool.{Bool, true, false, not}
+use mathlib.Core.Bool.{true, false, not}
 use mathlib.Core.List.{List, [], _∷_, _++_, List·Memᴰ, List·Memᴰ·head, List·Memᴰ·tail, List·Memᴰ·append-cases, Memᴰ·append-left, Memᴰ·append-right}
 use mathlib.Core.Logic.{_⊎_, inl, inr}
 use Prim.Native.Nat.{ℕ, _+_, _≤_, _<_}
 use native.Mathlib.Omega.{arith}
-use lib.ListN.{length, getD, take, drop}
+use lib.ListN.{length, take, drop}
 use lib.Seq.{sets, take-add}
 use lib.Dec.{ltb, eqb}
-use borrow.Author.Tests.{ltb-true, ltb-false, eqb-true, not-false}
-use Rattle.ground.specs.Outcome.{Outcome, next, verdictOf}
+use borrow.Author.Tests.{ltb-false, eqb-true, not-false}
+use Rattle.ground.specs.Outcome.{verdictOf}
 use Rattle.ground.specs.Outcome.Outcome.{good, bad}
 use Rattle.ground.specs.Refusing.{Test, test, judged}
 use Rattle.ground.proofs.OutcomeLaws.{next-good, next-bad, good-bad}
@@ -31,7 +31,6 @@ use Rattle.station.specs.Receiving.{Stored, Held, withApplied, withArriv
 use Rattle.ends.specs.declared.messages.About.{About}
 use Rattle.ends.specs.declared.messages.About.the-variants as about
 use Rattle.ends.specs.declared.ends.End.{End}
-use Rattle.station.specs.declared.receiving.Received.{Received}
 use Rattle.station.proofs.CallLaws.{each-passes, leaves-refused, refusal-or}
 use Rattle.ends.proofs.EndLaws.{usable-is}
 use Rattle.ends.proofs.MessageLaws.{step-below, rows-below}

@@ -1,7 +1,7 @@
 -- "16,400 words hold every run on tables within the sizes." Each relation's row message has three words and no more than the
 -- words of its rows; the tables have one word for each relation and those of the rows, 16,384 at most; so eight messages have two
 -- words more for each relation.
-use mathlib.Core.Path.{_≡_, refl, ap, sym, _∙_}
+use mathlib.Core.Path.{_≡_, refl, sym, _∙_}
 use mathlib.Core.Bool.{Bool, true, false, false≢true}
 use mathlib.Core.List.{List, map}
 use Prim.Native.Nat.{ℕ, zero, suc, _+_, _*_, _≤_, _<_}
@@ -9,10 +9,10 @@ use native.Mathlib.Nat.{mul-le-mul, not-suc-le-zero}
 use native.Mathlib.Numerals.{add-one}
 use native.Mathlib.Decide.{ℕ-discrete}
 use native.Mathlib.Omega.{arith}
-use lib.ListN.{length, getD, set}
+use lib.ListN.{length}
 use lib.Seq.{getD-set-same, getD-set-other}
 use Rattle.ground.specs.Tests.{pick}
-use Rattle.ground.specs.Lists.{filter, below, sum}
+use Rattle.ground.specs.Lists.{below, sum}
 use Rattle.ground.proofs.ListLaws.{filter-length}
 use Rattle.ground.proofs.NumbersLaws.{below-length}
 use Rattle.contents.specs.Parts.{relationCount, columnsIn}

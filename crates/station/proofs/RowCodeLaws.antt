@@ -3,36 +3,26 @@ use mathlib.Core.Path.{_≡_, refl, ap, sym, _∙_}
 use mathlib.Core.Bool.{Bool, true, false}
 use mathlib.Core.List.{List, [], _∷_, _++_, map, append-nil}
 use Prim.Native.Nat.{ℕ, _+_, _*_, _≤_, _<_, min}
-use native.Mathlib.Nat.{mul-le-mul-right, mul-le-mul, suc-mul, zero-mul}
+use native.Mathlib.Nat.{mul-le-mul-right, suc-mul, zero-mul}
 use native.Mathlib.Numerals.{add-one}
 use native.Mathlib.Omega.{arith}
 use lib.ListN.{length, getD, take, length-append, length-map, length-take}
 use lib.Seq.{sets, length-sets, getD-take, take-length}
 use Rattle.ground.specs.Lists.{filter, below, numbersFrom, each}
-use Rattle.ground.specs.Outcome.{Outcome}
-use Rattle.ground.specs.Outcome.Outcome.{good, bad}
-use Rattle.ground.proofs.ListLaws.{each-append, each-map, filter-length, getD-map}
-use Rattle.ground.proofs.NumbersLaws.{below-length, filter-below, below-more}
+use Rattle.ground.proofs.ListLaws.{each-append, each-map, getD-map}
+use Rattle.ground.proofs.NumbersLaws.{filter-below}
 use Rattle.ground.proofs.PuttingLaws.{sets-append, Copying, copying-start, copying-more, copying-done}
-use Rattle.ground.proofs.CollectingLaws.{padded-take}
-use Rattle.fields.specs.Refusals.{tooShort}
-use Rattle.contents.specs.Parts.{relationCount, columnsIn}
-use Rattle.contents.specs.Kept.{keptColumns, kept, shownColumns}
+use Rattle.contents.specs.Kept.{keptColumns}
 use Rattle.contents.specs.declared.envelope.Envelope.{Envelope}
-use Rattle.contents.specs.declared.kept.Columns.{Columns}
-use Rattle.paths.specs.Meaning.{Row, Table, wordIn}
-use Rattle.tables.specs.Offsets.{countIn, rowCount, extentOf}
-use Rattle.tables.specs.Shape.{shaped}
-use Rattle.tables.specs.Rows.{keptRows, wordOver, keptOver}
+use Rattle.paths.specs.Meaning.{Row, wordIn}
+use Rattle.tables.specs.Offsets.{countIn}
+use Rattle.tables.specs.Rows.{wordOver, keptOver}
 use Rattle.semijoin.specs.Promise.{rowOf, keptAt}
 use Rattle.tables.specs.declared.offsets.Extent.{Extent}
 use Rattle.semijoin.proofs.PromiseLaws.{promise}
 use Rattle.ends.specs.Messages.{rowMessage}
-use Rattle.station.specs.Making.{sentRows, fitted}
-use Rattle.station.specs.declared.making.Made.{Made}
-use Rattle.station.specs.declared.making.Made.the-variants.{Length, Refused}
+use Rattle.station.specs.Making.{sentRows}
 use Rattle.ends.proofs.CountingLaws.{Counting, counting-yes, counting-no, counting-less}
-use Rattle.station.proofs.MakingCodeLaws.{Makes, makes-bad, makes-good, fitted-short, fitted-fits}
 
 -- ---- counting the kept rows
 

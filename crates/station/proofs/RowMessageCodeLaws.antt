@@ -1,11 +1,11 @@
 -- What the returns of making a row message cite.
 use mathlib.Core.Path.{_≡_, refl, ap, sym, _∙_, fun-ext}
 use mathlib.Core.Bool.{Bool, true, false}
-use mathlib.Core.List.{List, [], _∷_, _++_, map}
+use mathlib.Core.List.{List, [], _∷_, map}
 use Prim.Native.Nat.{ℕ, _+_, _*_, _≤_, _<_, min}
 use native.Mathlib.Nat.{mul-le-mul}
 use native.Mathlib.Omega.{arith}
-use lib.ListN.{length, getD, take}
+use lib.ListN.{length, take}
 use lib.Seq.{sets, length-sets}
 use Rattle.ground.specs.Lists.{filter, below, each}
 use Rattle.ground.specs.Outcome.{Outcome}
@@ -14,7 +14,6 @@ use Rattle.ground.specs.declared.Verdict.{Verdict}
 use Rattle.ground.specs.declared.Verdict.the-variants as v
 use Rattle.ground.proofs.ListLaws.{filter-length}
 use Rattle.ground.proofs.NumbersLaws.{below-length}
-use Rattle.ground.proofs.PuttingLaws.{sets-append}
 use Rattle.ground.proofs.CollectingLaws.{padded-take}
 use Rattle.ground.proofs.RefusingLaws.{judge-refused, judge-taken}
 use Rattle.fields.specs.Refusals.{tooShort, notOurs}
@@ -38,7 +37,7 @@ use Rattle.tables.specs.declared.offsets.Extent.{Extent}
 use Rattle.tables.proofs.ShapeLaws.{shaped-shape, columns-most}
 use Rattle.semijoin.proofs.CallLaws.{word-by, kept-by}
 use Rattle.ends.specs.Reducing.{stepCount}
-use Rattle.ends.specs.Ends.{usable, Usable}
+use Rattle.ends.specs.Ends.{usable}
 use Rattle.ends.specs.Messages.{rowMessage}
 use Rattle.station.specs.Making.{sendTests, fitted, sentRows, rowsWith, makeRowsOf}
 use Rattle.ends.specs.declared.ends.End.{End}

@@ -1,19 +1,17 @@
 -- What a taken message leaves as it was: the end's papers, site and run, the lengths of marks and store; and a sound end stays
 -- sound.
-use mathlib.Core.Path.{_≡_, refl, ap, sym, _∙_}
-use mathlib.Core.Bool.{Bool, true, false}
+use mathlib.Core.Path.{_≡_, ap, _∙_}
+use mathlib.Core.Bool.{true}
 use mathlib.Core.List.{List}
-use mathlib.Core.Logic.{_≢_, _⊎_, inl, inr}
+use mathlib.Core.Logic.{inl, inr}
 use Prim.Native.Nat.{ℕ, _+_, _≤_, _<_}
 use native.Mathlib.Decide.{ℕ-discrete}
 use native.Mathlib.Omega.{arith}
 use lib.ListN.{length, getD, set, length-set}
-use lib.Seq.{sets, length-sets, getD-set-same, getD-set-other}
-use Rattle.ground.specs.Outcome.{Outcome, next}
+use lib.Seq.{length-sets, getD-set-same, getD-set-other}
 use Rattle.ground.specs.Outcome.Outcome.{good}
 use Rattle.ground.proofs.OutcomeLaws.{next-good}
 use Rattle.contents.specs.Parts.{relationCount}
-use Rattle.papers.specs.declared.checks.Papers.{Papers}
 use Rattle.tables.specs.Offsets.{rowCount}
 use Rattle.tables.specs.Shape.{shaped}
 use Rattle.semijoin.proofs.PromiseLaws.{promise}

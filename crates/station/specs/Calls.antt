@@ -1,5 +1,4 @@
 -- "A refusal writes nothing anywhere and changes no end." What stands afterwards where something stood before a call.
-use Prim.Native.Nat.{ℕ}
 use Rattle.ground.specs.Outcome.{Outcome}
 use Rattle.ground.specs.Outcome.Outcome.{good, bad}
 

@@ -20,7 +20,6 @@ use Rattle.tables.specs.Shape.{shaped}
 use Rattle.semijoin.specs.Local.{openedIn}
 use Rattle.station.specs.Calls.{leaves}
 use Rattle.ends.specs.Ends.{Marked, startOf, noEnd}
-use Rattle.ends.specs.declared.ends.End.{End}
 use Rattle.station.specs.declared.opening.Opened.{Opened}
 
 -- which of the eight places of relations are at a site

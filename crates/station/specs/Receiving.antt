@@ -2,9 +2,9 @@
 -- first row message of each relation, whole, to a lent store, also for its own relations." "Receiving: 10, 11 (marks), 1, 13, 14,
 -- 15, 16 or 17, 11 (store, exactly when the message doesn't fit behind those held)."
 use Prim.Native.Nat.{ℕ, _+_}
-use mathlib.Core.Bool.{Bool, true, not}
+use mathlib.Core.Bool.{true, not}
 use mathlib.Core.List.{List, [], _∷_}
-use lib.ListN.{length, getD, set}
+use lib.ListN.{length, set}
 use lib.Seq.{sets}
 use lib.Dec.{eqb, ltb}
 use Rattle.ground.specs.Outcome.{Outcome, next, verdictOf}

@@ -7,7 +7,6 @@ use papers::checks::Papers;
 use papers::programs::Program;
 ghost use mathlib.Core.Path.{_≡_};
 ghost use Rattle.ground.specs.Outcome.Outcome.{bad};
-ghost use Rattle.contents.specs.Sites.{isAt};
 ghost use Rattle.papers.specs.Checks.{GoodPapers};
 ghost use Rattle.ends.specs.Ends.{startOf};
 ghost use Rattle.station.specs.Opening.{openWith, openOf, shownOpened, openedMarks, hereAt};
