@@ -21,6 +21,7 @@ pub struct Estimate {
     pub total: u64,
 }
 
+// What stands in an array behind the last step.
 pub fn no_step() -> Step
     ensures { λ r. ⌜ r ≡ noStep ⌝ }
 {
@@ -31,6 +32,7 @@ pub fn no_step() -> Step
     }
 }
 
+// What stands behind the last line.
 pub fn no_line() -> Line
     ensures { λ r. ⌜ r ≡ line noStep 0 0 ⌝ }
 {
