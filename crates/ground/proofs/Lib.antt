@@ -13,11 +13,15 @@ pub mod PuttingLaws
 pub mod ListPartLaws
 pub mod MappingLaws
 pub mod CollectingLaws
+pub mod SiftingLaws
 pub mod CombinationLaws
 pub mod RisingLaws
 pub mod OrderLaws
+pub mod OrderedLaws
+pub mod SublistLaws
 pub mod LeastLaws
 pub mod ChoiceLaws
+pub mod ChoosingLaws
 pub mod UniqueLaws
 pub mod FigureLaws
 pub mod UsedLaws

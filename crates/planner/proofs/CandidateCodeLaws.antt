@@ -32,8 +32,8 @@ use Rattle.paths.proofs.StepCountLaws.{legal-few}
 use Rattle.estimates.specs.Estimate.{sameStep}
 use Rattle.planner.specs.Candidates.{shownSteps}
 use Rattle.planner.specs.declared.candidates.Steps.{Steps}
-use Rattle.planner.proofs.OrderedLaws.{ordered-same}
-use Rattle.planner.proofs.SiftingLaws.{Sifting, sifting-start, sifting-room, sifting-yes, sifting-no, sifting-done}
+use Rattle.ground.proofs.OrderedLaws.{ordered-same}
+use Rattle.ground.proofs.SiftingLaws.{Sifting, sifting-start, sifting-room, sifting-yes, sifting-no, sifting-done}
 
 -- ---- the same step
 

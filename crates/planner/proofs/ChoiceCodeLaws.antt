@@ -35,12 +35,12 @@ use Rattle.planner.specs.declared.candidates.Steps.{Steps}
 use Rattle.planner.specs.declared.choice.Choice.{Choice}
 use Rattle.planner.specs.declared.choice.Choice.the-variants.{Chosen, Nothing}
 use Rattle.planner.specs.declared.choice.Greedy.{Greedy}
-use Rattle.planner.proofs.SublistLaws.{fewer, first-mem}
+use Rattle.ground.proofs.SublistLaws.{fewer, first-mem}
 use Rattle.planner.proofs.ChoiceLaws.{same-self}
 use Rattle.estimates.proofs.ProfileLaws.{Inside, local-inside, rows-after, step-inside}
 use Rattle.estimates.proofs.EstimateLaws.{step-tells}
 use Rattle.estimates.proofs.BoundCodeLaws.{inside-bounded}
-use Rattle.planner.proofs.ChoosingLaws.{Seeking, choosing-start, seeking-none, seeking-some}
+use Rattle.ground.proofs.ChoosingLaws.{Seeking, choosing-start, seeking-none, seeking-some}
 
 -- ---- what a line says of the gain
 

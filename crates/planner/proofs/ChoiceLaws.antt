@@ -22,7 +22,7 @@ use Rattle.ground.proofs.OrderLaws.{ordered-filter}
 use Rattle.ground.proofs.ChoiceLaws.{First, Chosen, greatest-chosen}
 use Rattle.estimates.specs.Kind.{Kind, afterAll, total}
 use Rattle.planner.specs.Choice.{Handed, gain, without, greedy, cheaper, cheapest, fallback}
-use Rattle.planner.proofs.SublistLaws.{Apart, fewer, first-mem, first-before}
+use Rattle.ground.proofs.SublistLaws.{Apart, fewer, first-mem, first-before}
 
 -- ---- the greedy program
 

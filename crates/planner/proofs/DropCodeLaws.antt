@@ -28,7 +28,7 @@ use Rattle.estimates.specs.Estimate.{kindOf}
 use Rattle.estimates.specs.declared.costs.Costs.{Costs}
 use Rattle.planner.specs.Numbers.{shownNumbers}
 use Rattle.planner.specs.declared.numbers.Numbers.{Numbers}
-use Rattle.planner.proofs.SublistLaws.{fewer}
+use Rattle.ground.proofs.SublistLaws.{fewer}
 use Rattle.planner.proofs.DropLaws.{others, steps-all}
 use Rattle.estimates.proofs.EstimateLaws.{lines-costs, estimated-whole}
 use Rattle.planner.proofs.OrderCodeLaws.{lines-order, dearest-few}

@@ -25,7 +25,7 @@ use Rattle.ground.proofs.ChoiceLaws.{First, Chosen, greatest-chosen}
 use Rattle.estimates.specs.Kind.{Kind, costs, total}
 use Rattle.planner.specs.Promise.{Dearer}
 use Rattle.planner.specs.Choice.{dearestFirst, stepsAt, dropped, drops}
-use Rattle.planner.proofs.SublistLaws.{fewer, filter-part, part-map, first-mem, first-before}
+use Rattle.ground.proofs.SublistLaws.{fewer, filter-part, part-map, first-mem, first-before}
 
 -- one number left out
 abbrev pub others : ℕ → List ℕ → List ℕ

@@ -1,10 +1,6 @@
 -- The laws of the planner, and the figures of 01 that are estimates; those whose name has Code in it are what the functions
 -- go by.
 pub mod Figures
-pub mod SublistLaws
-pub mod OrderedLaws
-pub mod SiftingLaws
-pub mod ChoosingLaws
 pub mod ChoiceLaws
 pub mod DropLaws
 pub mod PlanLaws

@@ -36,7 +36,7 @@ use Rattle.planner.specs.Plan.{siteFor, greedySteps, dropsAt, afterDrops
 use Rattle.estimates.specs.declared.profiles.Profile.{Profile}
 use Rattle.estimates.specs.declared.costs.Costs.{Costs}
 use Rattle.estimates.specs.declared.lines.Line.{Line}
-use Rattle.planner.proofs.SublistLaws.{Apart, part-mem, part-length, part-ordered}
+use Rattle.ground.proofs.SublistLaws.{Apart, part-mem, part-length, part-ordered}
 use Rattle.planner.proofs.ChoiceLaws.{Greedy, greedy-run, greedy-from, greedy-once, greedy-few, CheapestOf, cheapest-is, fallback-is, fallback-total}
 use Rattle.estimates.proofs.EstimateLaws.{step-tells, estimated-lines, estimated-total}
 use Rattle.planner.proofs.DropLaws.{drops-part}

@@ -39,7 +39,7 @@ use Rattle.estimates.proofs.EstimateLaws.{step-tells, lines-steps}
 use Rattle.planner.specs.Choice.{Handed, greedy, cheapest, stepsAt, dropped, drops, dearestFirst, siteAmong, fallback}
 use Rattle.planner.specs.Plan.{siteFor, greedySteps, dropsAt, afterDrops, planned, planFor, planOf}
 use Rattle.planner.specs.Promise.{GreedyProgram, CheapestSite, Turns, Drops, Fallback, Promise, PlanPromise, PlanKept, stepsIn}
-use Rattle.planner.proofs.SublistLaws.{part-mem, part-ordered, ordered-behind}
+use Rattle.ground.proofs.SublistLaws.{part-mem, part-ordered, ordered-behind}
 use Rattle.planner.proofs.ChoiceLaws.{Greedy, greedy-run, greedy-from, greedy-once, greedy-choice, greedy-stops, Cheapest, CheapestOf, cheapest-is, fallback-is, fallback-total}
 use Rattle.planner.proofs.DropLaws.{others, dearest-member, dearest-ordered, dropped-one, drops-part, drops-lower, drops-keeps}
 use Rattle.planner.proofs.PlanLaws.{some-site, plan-lines, plan-legal, plan-once, plan-site, plan-total, plan-below, plan-sum}

@@ -1,6 +1,6 @@
 use mathlib.Core.Logic.{⊎-elim}
 use Prim.Native.Nat.{_-_}
-use Rattle.planner.proofs.ChoosingLaws.{Seeking, seeking-more, seeking-less}
+use Rattle.ground.proofs.ChoosingLaws.{Seeking, seeking-more, seeking-less}
 use Rattle.planner.proofs.ChoiceCodeLaws.{choice-start, choice-nothing, choice-chosen}
 use Rattle.papers.specs.Programs.{noStep}
 use Rattle.estimates.specs.Estimate.{kindOf}
