@@ -1,0 +1,284 @@
+-- What holds of each site's end, marks and store in every state that a crew comes to, whatever its messages say: the papers are
+-- those read back, no step is counted that the program has not, and the store is the row messages that arrived.
+use mathlib.Core.Path.{_≡_, refl, sym, ap, _∙_}
+use mathlib.Core.Bool.{Bool, true, false, _&&_}
+use mathlib.Core.List.{List, _∷_, _++_, List·Memᴰ, List·Memᴰ·tail}
+use mathlib.Core.Logic.{inl, inr}
+use Prim.Native.Nat.{ℕ, suc, _+_, _-_, _≤_, _<_}
+use native.Mathlib.Decide.{ℕ-discrete}
+use native.Mathlib.Omega.{arith}
+use lib.ListN.{length, getD, take, drop, set, length-set, length-append}
+use lib.Seq.{sets, sets-eq, take-at, length-take-le, length-sets, getD-set-same, getD-set-other}
+use lib.Dec.{ltb, leb}
+use borrow.Author.Tests.{eq-eqb, ne-eqb, le-ltb}
+use Rattle.ground.specs.Tests.{pick}
+use Rattle.ground.specs.Outcome.{Outcome}
+use Rattle.ground.specs.Outcome.Outcome.{good, bad}
+use Rattle.ground.proofs.OutcomeLaws.{never}
+use Rattle.contents.specs.Parts.{relationCount}
+use Rattle.contents.specs.Sites.{isAt}
+use Rattle.contents.specs.Kept.{keptColumns}
+use Rattle.contents.specs.declared.envelope.Envelope.{Envelope}
+use Rattle.papers.specs.declared.programs.Program.{Program}
+use Rattle.papers.specs.Checks.{GoodPapers}
+use Rattle.papers.proofs.CheckLaws.{papers-sound}
+use Rattle.tables.specs.Offsets.{rowCount}
+use Rattle.semijoin.specs.Marks.{reducedBy}
+use Rattle.semijoin.proofs.PromiseLaws.{promise}
+use Rattle.ends.specs.Reducing.{stepCount, stepOf, placeOf}
+use Rattle.station.specs.Calls.{leaves}
+use Rattle.ends.specs.Ends.{appliedOf, hasArrived}
+use Rattle.ends.specs.Messages.{frontLength, runOf, secondOf, bodyOf, aboutOf, counted}
+use Rattle.station.specs.Receiving.{Held, appliedTo, withApplied, withArrived, receiveOf, receiveWith}
+use Rattle.ends.specs.declared.messages.About.the-variants as about
+use Rattle.ends.specs.declared.ends.End.{End}
+use Rattle.station.proofs.ReceivingLaws.{Taken, with-facts}
+use Rattle.station.proofs.CallLaws.{leaves-good, leaves-bad}
+use Rattle.ends.proofs.MessageLaws.{step-below, rows-below}
+use Rattle.answerer.specs.Stores.{SoundRows, OneOfEach}
+use Rattle.answerer.proofs.DeliveredLaws.{one-more}
+use Rattle.demands.specs.Link.{Crew, Allowed, State, withTaken, lentStore}
+use Rattle.demands.proofs.TakenLaws.{receive-by}
+use Rattle.demands.proofs.RunLaws.{place-own, place-mono}
+use Rattle.demands.proofs.AppendedLaws.{held-map}
+
+module _ (c : Crew) where
+  abbrev e : Envelope
+  e = c .papers .envelope
+
+  abbrev p : Program
+  p = c .papers .program
+
+  -- a row message of this run that was made
+  abbrev pub Kept : List (List ℕ) → ℕ → List ℕ → Type 0
+  Kept made r m = List·Memᴰ m made × SoundRows (c .papers .envelope) (c .run) r m
+
+-- ---- sound ends
+
+pub record SoundAt (c : Crew) (made : List (List ℕ)) (site : ℕ) (h : Held) : Type 0 where
+  pub envelope : h .end .envelope ≡ c .papers .envelope
+  pub program : h .end .program ≡ c .papers .program
+  pub place : h .end .site ≡ site
+  pub run : h .end .run ≡ c .run
+  pub eight : length (h .end .applied) ≡ 8
+  pub few : (r : ℕ) → r < relationCount (c .papers .envelope)
+      → getD (h .end .applied) r 0 ≤ placeOf (c .papers .program) r (stepCount (c .papers .program))
+  pub arrivals : length (h .end .arrived) ≡ 8
+  pub marks : length (h .marks) ≡ length (c .lent site)
+  pub used : h .end .used ≤ length (h .store)
+  pub stored : OneOfEach (c .papers .envelope) (Kept c made) (h .end .arrived) (take (h .end .used) (h .store))
+
+abbrev pub Sound : Crew → State → Type 0
+Sound c s = (site : ℕ) → site ≤ 7 → SoundAt c (s .made) site (s .at site)
+
+-- ---- what a message that comes does to a site
+
+pub data Change (c : Crew) (site : ℕ) (x : Held) (store m : List ℕ) (h : Held) : Type 0 where
+  refused : h ≡ record { end = x .end; marks = x .marks; store = store } → Change c site x store m h
+  reduces : (n : ℕ) → aboutOf (stepCount (c .papers .program)) (relationCount (c .papers .envelope)) (secondOf m) ≡ about.Step n
+      → runOf m ≡ c .run → isAt (c .papers .envelope) site (stepOf (c .papers .program) n .left .relation) ≡ true
+      → appliedOf (x .end) (stepOf (c .papers .program) n .left .relation)
+      ≡ placeOf (c .papers .program) (stepOf (c .papers .program) n .left .relation) n
+      → h ≡ record {
+        end = withApplied (x .end) (stepOf (c .papers .program) n .left .relation);
+        marks = reducedBy (c .papers .envelope) (c .tables site) (bodyOf m) (stepOf (c .papers .program) n .left) (x .marks);
+        store = store;
+      }
+      → Change c site x store m h
+  arrives : (r : ℕ) → aboutOf (stepCount (c .papers .program)) (relationCount (c .papers .envelope)) (secondOf m) ≡ about.Rows r
+      → runOf m ≡ c .run → site ≡ c .papers .program .site → counted (length (keptColumns (c .papers .envelope) r)) m ≡ true
+      → hasArrived (x .end) r ≡ false → x .end .used + length m ≤ length store
+      → h ≡ record { end = withArrived (x .end) r (length m); marks = x .marks; store = sets store (x .end .used) m }
+      → Change c site x store m h
+
+held-is : (h : Held) (a : End) (b d : List ℕ) → h .end ≡ a → h .marks ≡ b → h .store ≡ d → h ≡ record { end = a; marks = b; store = d }
+held-is h a b d p q r = rw (← p, ← q, ← r) refl
+
+pub good-papers : (c : Crew) → Allowed c → GoodPapers (c .papers)
+good-papers c w = papers-sound (c .envelope) (c .program) (c .papers) (w .accepted .0) (w .accepted .1)
+
+module _ (c : Crew) (w : Allowed c) (made : List (List ℕ)) (site : ℕ) (small : site ≤ 7) (x : Held) (s : SoundAt c made site x) where
+  pub room-at : rowCount (c .papers .envelope) (c .tables site) ≤ length (x .marks)
+  room-at = omega (arith, w .marks site small, s .marks)
+
+  pub received : (store m : List ℕ)
+      → receiveOf (x .end) (c .tables site) (x .marks) store m ≡ receiveWith (c .papers) (x .end) (c .tables site) (x .marks) store m
+  received store m =
+      receive-by (c .papers) (good-papers c w) (x .end) (s .envelope) (s .program) (s .few) (c .tables site) (x .marks) (w .shapes site small)
+      room-at store m
+
+  pub changes : (store m : List ℕ)
+      → Change c site x store m
+      (leaves (λ (h : Held). h) (record { end = x .end; marks = x .marks; store = store }) (receiveOf (x .end) (c .tables site) (x .marks) store m))
+  changes store m = go (receiveOf (x .end) (c .tables site) (x .marks) store m) (received store m)
+    where
+      go : (o : Outcome Held) → o ≡ receiveWith (c .papers) (x .end) (c .tables site) (x .marks) store m
+          → Change c site x store m (leaves (λ (h : Held). h) (record { end = x .end; marks = x .marks; store = store }) o)
+      go (bad n u) f = refused (leaves-bad (λ (h : Held). h) (record { end = x .end; marks = x .marks; store = store }) n u)
+      go (good h u) f =
+          rw (leaves-good (λ (h : Held). h) (record { end = x .end; marks = x .marks; store = store }) h u)
+          (which (with-facts (c .papers) (x .end) (c .tables site) (x .marks) store m h u (sym f)))
+        where
+          which : (frontLength ≤ length m) × (runOf m ≡ x .end .run) × Taken (c .papers) (x .end) (c .tables site) (x .marks) store m h → Change c site x store m h
+          which (_, own, inl (n, is, t, kept)) =
+              reduces n is (own ∙ s .run) (rw (s .place) at (t .here)) (sym (t .due)) (held-is h _ _ _ (t .end) (t .marked) kept)
+          which (_, own, inr (r, is, t, kept)) =
+              arrives r is (own ∙ s .run) (sym (s .place) ∙ t .here) (t .sound) (t .first) (t .fits) (held-is h _ _ _ (t .end) kept (t .stored))
+
+-- ---- one site changes, the others stay
+
+module _ (s : State) (site : ℕ) (store : List ℕ) (o : Outcome Held) where
+  pub taken-here : withTaken s site store o .at site
+      ≡ leaves (λ (h : Held). h) (record { end = s .at site .end; marks = s .at site .marks; store = store }) o
+  unfolding withTaken
+  taken-here = rw (eq-eqb site site refl)
+
+  pub taken-there : (k : ℕ) → (k ≡ site → ⊥) → withTaken s site store o .at k ≡ s .at k
+  unfolding withTaken
+  taken-there k differ = rw (ne-eqb k site differ)
+
+  pub taken-made : withTaken s site store o .made ≡ s .made
+  unfolding withTaken
+  taken-made = refl
+
+  pub taken-at : (Q : ℕ → Held → Type 0) → ((k : ℕ) → k ≤ 7 → Q k (s .at k))
+      → Q site (leaves (λ (h : Held). h) (record { end = s .at site .end; marks = s .at site .marks; store = store }) o)
+      → (k : ℕ) → k ≤ 7 → Q k (withTaken s site store o .at k)
+  taken-at Q all one k h = go (ℕ-discrete k site)
+    where
+      here : Q site (withTaken s site store o .at site)
+      here = rw taken-here one
+
+      go : Dec (k ≡ site) → Q k (withTaken s site store o .at k)
+      go (yes t) = rw t here
+      go (no t) = rw (taken-there k t) (all k h)
+
+-- ---- an end stays sound
+
+pub rows-any : (steps relations mark r : ℕ) → aboutOf steps relations mark ≡ about.Rows r → aboutOf 0 relations mark ≡ about.Rows r
+unfolding aboutOf
+rows-any steps relations mark r h = rw (le-ltb mark 0 (omega arith)) (go (ltb mark steps) h)
+  where
+    go : (b : Bool) → pick b (about.Step mark) (pick (leb 256 mark && ltb mark (256 + relations)) (about.Rows (mark - 256)) about.Nothing) ≡ about.Rows r
+        → pick (leb 256 mark && ltb mark (256 + relations)) (about.Rows (mark - 256)) about.Nothing ≡ about.Rows r
+    go true t = let z : _≡_ {A = ℕ} 0 1 = cc in absurd (never z)
+    go false t = t
+
+module _ (c : Crew) (made : List (List ℕ)) (site : ℕ) (x : Held) (s : SoundAt c made site x) (behind m : List ℕ) where
+  abbrev lent : List ℕ
+  lent = take (x .end .used) (x .store) ++ behind
+
+  front : length (take (x .end .used) (x .store)) ≡ x .end .used
+  front = length-take-le (x .end .used) (x .store) (s .used)
+
+  pub lent-used : x .end .used ≤ length (lentStore x behind)
+  lent-used = omega (arith, front, length-append (take (x .end .used) (x .store)) behind)
+
+  pub lent-same : take (x .end .used) (lentStore x behind) ≡ take (x .end .used) (x .store)
+  lent-same = take-at (take (x .end .used) (x .store)) behind (x .end .used) front
+
+  appended : x .end .used + length m ≤ length lent → take (x .end .used + length m) (sets lent (x .end .used) m) ≡ take (x .end .used) (x .store) ++ m
+  appended room =
+      let long : length (take (x .end .used) lent ++ m) ≡ x .end .used + length m =
+      omega (arith, length-append (take (x .end .used) lent) m, length-take-le (x .end .used) lent lent-used) in
+      ap (λ (l : List ℕ). take (x .end .used + length m) l) (sets-eq m lent (x .end .used) room)
+      ∙ take-at (take (x .end .used) lent ++ m) (drop (x .end .used + length m) lent) (x .end .used + length m) long
+      ∙ ap (λ (l : List ℕ). l ++ m) lent-same
+
+  pub stays-sound : (runOf m ≡ c .run → List·Memᴰ m made) → (h : Held) → Change c site x (lentStore x behind) m h → SoundAt c made site h
+  unfolding withApplied appliedTo withArrived
+  stays-sound there h (refused is) =
+      rw is
+      (record {
+        envelope = s .envelope;
+        program = s .program;
+        place = s .place;
+        run = s .run;
+        eight = s .eight;
+        few = s .few;
+        arrivals = s .arrivals;
+        marks = s .marks;
+        used = lent-used;
+        stored = rw lent-same (s .stored);
+      })
+  stays-sound there h (reduces n spoken own here next is) =
+      rw is
+      (record {
+        envelope = s .envelope;
+        program = s .program;
+        place = s .place;
+        run = s .run;
+        eight = length-set (x .end .applied) r (appliedOf (x .end) r + 1) ∙ s .eight;
+        few = λ k h. one k h (ℕ-discrete k r);
+        arrivals = s .arrivals;
+        marks = promise (c .papers .envelope) .as-many (c .tables site) (bodyOf m) (x .marks) (stepOf (c .papers .program) n .left) ∙ s .marks;
+        used = lent-used;
+        stored = rw lent-same (s .stored);
+      })
+    where
+      r : ℕ
+      r = stepOf (c .papers .program) n .left .relation
+
+      last : n < stepCount (c .papers .program)
+      last = step-below (stepCount (c .papers .program)) (relationCount (c .papers .envelope)) (secondOf m) n spoken
+
+      one : (k : ℕ) → k < relationCount (c .papers .envelope) → Dec (k ≡ stepOf (c .papers .program) n .left .relation)
+          → getD (set (x .end .applied) (stepOf (c .papers .program) n .left .relation) (appliedOf (x .end) (stepOf (c .papers .program) n .left .relation) + 1)) k 0
+          ≤ placeOf (c .papers .program) k (stepCount (c .papers .program))
+      one k h (yes t) =
+          let q = stepOf (c .papers .program) n .left .relation in
+          let small : q < length (x .end .applied) = omega (arith, s .eight, h, t) in
+          rw t
+          (omega (
+            arith,
+            getD-set-same (x .end .applied) q (appliedOf (x .end) q + 1) 0 small,
+            next,
+            place-own (c .papers .program) q n last refl,
+            place-mono (c .papers .program) q (suc n) (stepCount (c .papers .program)) last,
+          ))
+      one k h (no t) =
+          rw (getD-set-other (x .end .applied) (stepOf (c .papers .program) n .left .relation) k (appliedOf (x .end) (stepOf (c .papers .program) n .left .relation) + 1) 0 t)
+          (s .few k h)
+  stays-sound there h (arrives r spoken own here whole new room is) =
+      rw is
+      (record {
+        envelope = s .envelope;
+        program = s .program;
+        place = s .place;
+        run = s .run;
+        eight = s .eight;
+        few = s .few;
+        arrivals = length-set (x .end .arrived) r true ∙ s .arrivals;
+        marks = s .marks;
+        used = rw (length-sets lent (x .end .used) m) room;
+        stored =
+            rw (appended room)
+            (one-more (c .papers .envelope) (Kept c made) r m (there own, sound) (x .end .arrived) (take (x .end .used) (x .store)) (s .stored) few-arrived new);
+      })
+    where
+      few-arrived : r < length (x .end .arrived)
+      few-arrived = omega (arith, s .arrivals, rows-below (stepCount (c .papers .program)) (relationCount (c .papers .envelope)) (secondOf m) r spoken)
+
+      sound : SoundRows (c .papers .envelope) (c .run) r m
+      sound =
+          record {
+            own = own;
+            about = rows-any (stepCount (c .papers .program)) (relationCount (c .papers .envelope)) (secondOf m) r spoken;
+            whole = whole;
+          }
+
+-- with one message more made
+pub sound-more : (c : Crew) (made : List (List ℕ)) (m : List ℕ) (site : ℕ) (h : Held) → SoundAt c made site h → SoundAt c (m ∷ made) site h
+sound-more c made m site h s =
+    record {
+      envelope = s .envelope;
+      program = s .program;
+      place = s .place;
+      run = s .run;
+      eight = s .eight;
+      few = s .few;
+      arrivals = s .arrivals;
+      marks = s .marks;
+      used = s .used;
+      stored = held-map (c .papers .envelope) (λ r n k. (List·Memᴰ·tail (k .0), k .1)) (h .end .arrived) (take (h .end .used) (h .store)) (s .stored);
+    }

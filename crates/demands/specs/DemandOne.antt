@@ -1,0 +1,55 @@
+-- "Every envelope, program, table and radio message, damaged or hostile, is either taken or refused with a number from our list,
+-- and every call ends. A refusal leaves the row marks, the store and every output as they were before the call." For each call
+-- on ends, marks and stores: the numbers that it can refuse by, and what a refusal leaves. That every call ends is the language's own
+-- guarantee, and that a call is taken or refused is what an outcome is.
+use Prim.Native.Nat.{ℕ}
+use mathlib.Core.Path.{_≡_}
+use mathlib.Core.List.{List, [], _∷_, List·Memᴰ}
+use mathlib.Core.Logic.{_⊎_}
+use lib.ListN.{length}
+use Rattle.ground.specs.Outcome.Outcome.{bad}
+use Rattle.fields.specs.Refusals.{endsInside, beyondLimit, wrongShape, tooShort, waiting, otherRun, notOurs, notSound, alreadyTaken, stepMissing}
+use Rattle.contents.specs.declared.envelope.Envelope.{Envelope}
+use Rattle.envelopes.specs.Envelope.{checkEnvelope}
+use Rattle.papers.specs.Checks.{papersOf}
+use Rattle.papers.specs.declared.programs.Program.{Program}
+use Rattle.semijoin.specs.Marks.{marksAfter}
+use Rattle.semijoin.specs.Run.{runOutcome}
+use Rattle.station.specs.Opening.{openOf, openedMarks}
+use Rattle.station.specs.Making.{makeValuesOf, makeRowsOf, madeIn}
+use Rattle.station.specs.Receiving.{Held, receiveOf, refusedBy, shownReceived, receivedMarks, receivedStore}
+use Rattle.ends.specs.declared.ends.End.{End}
+use Rattle.answerer.specs.Answer.{answerOutcome, answeredIn}
+use Rattle.answerer.specs.Assembly.{assembledOutcome}
+
+-- a refusal is that of the papers, as their bytes would be refused, or by one of these numbers
+abbrev pub PapersOr : Envelope → Program → List ℕ → ℕ → ℕ → Type 0
+PapersOr e p numbers n u = (papersOf e p ≡ bad n u) ⊎ List·Memᴰ n numbers
+
+pub record DemandOne : Type 0 where
+  -- "Opening: 10, 4 (site above 7), 11."
+  pub opening : (e : Envelope) (p : Program) (site run : ℕ) (words marks : List ℕ) (n u : ℕ) → openOf e p site run words marks ≡ bad n u
+      → PapersOr e p (wrongShape ∷ beyondLimit ∷ tooShort ∷ []) n u × (openedMarks marks (openOf e p site run words marks) ≡ marks)
+  -- "One-place run: 10, 11."
+  pub in-one-place : (e : Envelope) (p : Program) (words marks : List ℕ) (n u : ℕ) → runOutcome e p words marks ≡ bad n u
+      → PapersOr e p (wrongShape ∷ tooShort ∷ []) n u × (marksAfter marks (runOutcome e p words marks) ≡ marks)
+  -- 4 for too many applied steps, then "Making: 10, 11 (marks), 14, 12, 11 (message)."
+  pub making-values : (x : End) (words marks : List ℕ) (step : ℕ) (out : List ℕ) (n u : ℕ) → makeValuesOf x words marks step (length out) ≡ bad n u
+      → PapersOr (x .envelope) (x .program) (beyondLimit ∷ wrongShape ∷ tooShort ∷ notOurs ∷ waiting ∷ tooShort ∷ []) n u
+      × (madeIn out (makeValuesOf x words marks step (length out)) ≡ out)
+  pub making-rows : (x : End) (words marks : List ℕ) (r : ℕ) (out : List ℕ) (n u : ℕ) → makeRowsOf x words marks r (length out) ≡ bad n u
+      → PapersOr (x .envelope) (x .program) (beyondLimit ∷ wrongShape ∷ tooShort ∷ notOurs ∷ waiting ∷ tooShort ∷ []) n u
+      × (madeIn out (makeRowsOf x words marks r (length out)) ≡ out)
+  -- 4, then "Receiving: 10, 11 (marks), 1, 13, 14, 15, 16 or 17, 11 (store ..)": the end, the marks and the store stay
+  pub receiving : (x : End) (words marks store m : List ℕ) (n u : ℕ) → receiveOf x words marks store m ≡ bad n u
+      → PapersOr (x .envelope) (x .program)
+      (beyondLimit ∷ wrongShape ∷ tooShort ∷ endsInside ∷ otherRun ∷ notOurs ∷ notSound ∷ alreadyTaken ∷ stepMissing ∷ tooShort ∷ []) n u
+      × (shownReceived (λ (h : Held). h .end) x (receiveOf x words marks store m) ≡ refusedBy x n u)
+      × (receivedMarks marks (receiveOf x words marks store m) ≡ marks) × (receivedStore store (receiveOf x words marks store m) ≡ store)
+  -- "Answering on tables: 10, 11."
+  pub answering-tables : (e : Envelope) (words out : List ℕ) (n u : ℕ) → answerOutcome e words out ≡ bad n u
+      → ((checkEnvelope e ≡ bad n u) ⊎ List·Memᴰ n (wrongShape ∷ tooShort ∷ [])) × (answeredIn out (answerOutcome e words out) ≡ out)
+  -- 4, then "Answering at an end: 14 .., 15 .., 12, 11"
+  pub answering-end : (x : End) (store out : List ℕ) (n u : ℕ) → assembledOutcome x store out ≡ bad n u
+      → PapersOr (x .envelope) (x .program) (beyondLimit ∷ notOurs ∷ notSound ∷ waiting ∷ tooShort ∷ []) n u
+      × (answeredIn out (assembledOutcome x store out) ≡ out)
