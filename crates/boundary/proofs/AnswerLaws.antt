@@ -1,0 +1,70 @@
+-- The laws of an answer as one number: it says the number and the value, and each return.
+use mathlib.Core.Path.{_≡_, refl, sym, ap, _∙_}
+use Prim.Native.Nat.{ℕ, _+_, _*_, _≤_, _<_, min}
+use native.Mathlib.Omega.{arith}
+use Rattle.ground.specs.declared.Verdict.{Verdict}
+use Rattle.ground.specs.declared.Verdict.the-variants as verdict
+use Rattle.fields.specs.declared.puts.Written.{Written}
+use Rattle.fields.specs.declared.puts.Written.the-variants as written
+use Rattle.station.specs.declared.making.Made.{Made}
+use Rattle.station.specs.declared.making.Made.the-variants as made
+use Rattle.answerer.specs.declared.answer.Answered.{Answered}
+use Rattle.answerer.specs.declared.answer.Answered.the-variants as answered
+use Rattle.boundary.specs.Answers.{asWord, answerWord, verdictWord, writtenWord, madeWord, answeredWord}
+
+-- ---- the number and the value are in the answer, where the value is a word
+
+pub word-below : (n : ℕ) → n < 4294967295 → n ≡ asWord n
+unfolding asWord
+word-below n h = omega arith
+
+pub word-beyond : (n : ℕ) → 4294967295 ≤ n → 4294967295 ≡ asWord n
+unfolding asWord
+word-beyond n h = omega arith
+
+pub word-least : (n : ℕ) → asWord n ≤ 4294967295
+unfolding asWord
+word-least n = omega arith
+
+-- two answers that are equal have one number and one value
+pub answer-one : (m n v w : ℕ) → answerWord m v ≡ answerWord n w → (m ≡ n) × (asWord v ≡ asWord w)
+unfolding answerWord
+answer-one m n v w e = (omega (arith, e, word-least v, word-least w), omega (arith, e, word-least v, word-least w))
+
+-- ---- each return
+
+pub answer-is : (number value w : ℕ) → w ≡ asWord value → number * 4294967296 + w ≡ answerWord number value
+unfolding answerWord
+answer-is number value w e = ap (λ (k : ℕ). number * 4294967296 + k) e
+
+pub verdict-taken : (v : Verdict) (r : ℕ) → v ≡ verdict.Taken → r ≡ answerWord 0 0 → r ≡ verdictWord v
+unfolding verdictWord
+verdict-taken v r e f = rw e f
+
+pub verdict-refused : (v : Verdict) (r n p : ℕ) → v ≡ verdict.Refused n p → r ≡ answerWord n p → r ≡ verdictWord v
+unfolding verdictWord
+verdict-refused v r n p e f = rw e f
+
+pub written-length : (v : Written) (r n : ℕ) → v ≡ written.Length n → r ≡ answerWord 0 n → r ≡ writtenWord v
+unfolding writtenWord
+written-length v r n e f = rw e f
+
+pub written-refused : (v : Written) (r n p : ℕ) → v ≡ written.Refused n p → r ≡ answerWord n p → r ≡ writtenWord v
+unfolding writtenWord
+written-refused v r n p e f = rw e f
+
+pub made-length : (v : Made) (r n : ℕ) → v ≡ made.Length n → r ≡ answerWord 0 n → r ≡ madeWord v
+unfolding madeWord
+made-length v r n e f = rw e f
+
+pub made-refused : (v : Made) (r n p : ℕ) → v ≡ made.Refused n p → r ≡ answerWord n p → r ≡ madeWord v
+unfolding madeWord
+made-refused v r n p e f = rw e f
+
+pub answered-length : (v : Answered) (r n : ℕ) → v ≡ answered.Length n → r ≡ answerWord 0 n → r ≡ answeredWord v
+unfolding answeredWord
+answered-length v r n e f = rw e f
+
+pub answered-refused : (v : Answered) (r n p : ℕ) → v ≡ answered.Refused n p → r ≡ answerWord n p → r ≡ answeredWord v
+unfolding answeredWord
+answered-refused v r n p e f = rw e f

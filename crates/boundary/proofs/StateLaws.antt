@@ -1,0 +1,148 @@
+-- The laws of a state: each return, and the end in it and back.
+use mathlib.Core.Path.{_≡_, refl, sym, ap, _∙_}
+use mathlib.Core.Bool.{Bool, true, false}
+use mathlib.Core.List.{List, [], _∷_, _++_, map}
+use Prim.Native.Nat.{ℕ, zero, suc, _+_, _*_, _≤_, _<_, min}
+use native.Mathlib.Numerals.{add-one}
+use native.Mathlib.Omega.{arith}
+use lib.ListN.{length, getD, take, set}
+use lib.Seq.{sets, take-all, set-getD}
+use lib.Dec.{ltb, eqb}
+use borrow.Author.Tests.{lt-ltb, le-ltb}
+use Rattle.ground.specs.Tests.{pick}
+use Rattle.ground.specs.Lists.{any, below, numbersFrom}
+use Rattle.ground.specs.Searching.{someFrom}
+use Rattle.ground.proofs.SearchingLaws.{Looking, some-more, some-found, some-none, any-numbers}
+use Rattle.ground.proofs.PuttingLaws.{Copying, copying-done}
+use Rattle.contents.specs.Parts.{relationCount}
+use Rattle.papers.specs.declared.checks.Papers.{Papers}
+use Rattle.station.specs.declared.ends.End.{End}
+use Rattle.boundary.specs.Answers.{asWord}
+use Rattle.boundary.specs.States.{places, appliedIn, arrivedIn, unclearAt, unclear, endOf, bitOf, appliedWord, wordsOf, stateAfter}
+
+-- ---- an arrived word that is neither 0 nor 1
+
+module _ (s : List ℕ) (i : ℕ) (l : Looking someFrom (unclearAt s) 8 i) where
+  module _ (h : i < 8) where
+    pub unclear-passed : getD s (11 + i) 0 ≤ 1 → Looking someFrom (unclearAt s) 8 (i + 1)
+    unfolding unclearAt
+    unclear-passed t = some-more (unclearAt s) 8 i l h (le-ltb 1 (getD s (11 + i) 0) t)
+
+    pub unclear-found : 1 < getD s (11 + i) 0 → true ≡ unclear s
+    unfolding unclear unclearAt
+    unclear-found t = some-found (unclearAt s) 8 i l h (lt-ltb 1 (getD s (11 + i) 0) t) ∙ sym (any-numbers (unclearAt s) 0 8)
+
+  pub unclear-none : 8 ≤ i → false ≡ unclear s
+  unfolding unclear
+  unclear-none t = some-none (unclearAt s) 8 i l t ∙ sym (any-numbers (unclearAt s) 0 8)
+
+-- ---- words written
+
+pub bit-set : (b : Bool) → b ≡ true → 1 ≡ bitOf b
+unfolding bitOf
+bit-set b e = rw e
+
+pub bit-clear : (b : Bool) → b ≡ false → 0 ≡ bitOf b
+unfolding bitOf
+bit-clear b e = rw e
+
+module _ (relations : ℕ) (applied s : List ℕ) (r : ℕ) where
+  pub applied-own : r < relations → getD applied r 0 ≡ appliedWord relations applied s r
+  unfolding appliedWord
+  applied-own h = rw (lt-ltb r relations h)
+
+  pub applied-behind : relations ≤ r → getD s (3 + r) 0 ≡ appliedWord relations applied s r
+  unfolding appliedWord
+  applied-behind h = rw (le-ltb r relations h)
+
+-- the end that the words are, as its fields are read
+pub end-is : (q : Papers) (s : List ℕ) (u : ℕ) → u ≡ getD s 2 0
+    → record {
+      envelope = q .envelope;
+      program = q .program;
+      site = getD s 0 0;
+      run = getD s 1 0;
+      applied = getD s 3 0 ∷ getD s 4 0 ∷ getD s 5 0 ∷ getD s 6 0 ∷ getD s 7 0 ∷ getD s 8 0 ∷ getD s 9 0 ∷ getD s 10 0 ∷ [];
+      arrived =
+          eqb (getD s 11 0) 1
+          ∷ eqb (getD s 12 0) 1
+          ∷ eqb (getD s 13 0) 1
+          ∷ eqb (getD s 14 0) 1
+          ∷ eqb (getD s 15 0) 1
+          ∷ eqb (getD s 16 0) 1
+          ∷ eqb (getD s 17 0) 1
+          ∷ eqb (getD s 18 0) 1
+          ∷ [];
+      used = u;
+    }
+    ≡ endOf q s
+unfolding endOf appliedIn arrivedIn
+end-is q s u e = rw e refl
+
+-- the words of an end, each as something gave it
+module _ (x : End) (s : List ℕ) (n : ℕ) (e : n ≡ relationCount (x .envelope)) where
+  abbrev own : ℕ → ℕ
+  own r = appliedWord n (x .applied) s r
+
+  abbrev mark : ℕ → ℕ
+  mark r = bitOf (getD (x .arrived) r false)
+
+  pub words-are : (u a b c d f g h i : ℕ) → u ≡ asWord (x .used) → a ≡ own 0 → b ≡ own 1 → c ≡ own 2 → d ≡ own 3 → f ≡ own 4 → g ≡ own 5
+      → h ≡ own 6 → i ≡ own 7 → (A B C D F G H I : ℕ) → A ≡ mark 0 → B ≡ mark 1 → C ≡ mark 2 → D ≡ mark 3 → F ≡ mark 4 → G ≡ mark 5 → H ≡ mark 6
+      → I ≡ mark 7
+      → (x .site ∷ x .run ∷ u ∷ a ∷ b ∷ c ∷ d ∷ f ∷ g ∷ h ∷ i ∷ A ∷ B ∷ C ∷ D ∷ F ∷ G ∷ H ∷ I ∷ []) ≡ wordsOf x s
+  unfolding wordsOf
+  words-are u a b c d f g h i eu ea eb ec ed ef eg eh ei A B C D F G H I eA eB eC eD eF eG eH eI =
+      rw (eu, ea, eb, ec, ed, ef, eg, eh, ei, eA, eB, eC, eD, eF, eG, eH, eI, e) refl
+
+words-long : (x : End) (s : List ℕ) → length (wordsOf x s) ≡ 19
+unfolding wordsOf
+words-long x s = refl
+
+pub state-put : (x : End) (s words after : List ℕ) (i p : ℕ) → words ≡ wordsOf x s → Copying words s 0 19 i p after → 19 ≤ i
+    → after ≡ stateAfter x s
+unfolding stateAfter
+state-put x s words after i p e c h =
+    copying-done words s 0 19 i p after c h
+    ∙ ap (λ (w : List ℕ). sets s 0 (take 19 w)) e
+    ∙ ap (λ (w : List ℕ). sets s 0 w) (take-all 19 (wordsOf x s) (omega (arith, words-long x s)))
+
+-- ---- the end in a state, and back
+
+-- every word written as it stands changes nothing
+sets-same : (s : List ℕ) (i n : ℕ) → sets s i (map (λ j. getD s j 0) (numbersFrom i n)) ≡ s
+unfolding numbersFrom
+sets-same s i zero = refl
+sets-same s i (suc n) =
+    ap (λ (l : List ℕ). sets l (suc i) (map (λ j. getD s j 0) (numbersFrom (i + 1) n))) (set-getD s i 0)
+    ∙ rw (add-one i) (sets-same s (suc i) n)
+
+bit-back : (n : ℕ) → n ≤ 1 → bitOf (eqb n 1) ≡ n
+unfolding bitOf
+bit-back zero h = refl
+bit-back (suc zero) h = refl
+bit-back (suc (suc n)) h = absurd (omega (arith, h))
+
+either-same : (b : Bool) (n : ℕ) → pick b n n ≡ n
+either-same true n = refl
+either-same false n = refl
+
+-- a state whose arrived words are 0 or 1 is what is written of the end that it is
+module _ (q : Papers) (s : List ℕ) (clear : (r : ℕ) → r < 8 → getD s (11 + r) 0 ≤ 1) (counted : getD s 2 0 ≤ 4294967295) where
+  bit : (r : ℕ) → r < 8 → getD s (11 + r) 0 ≡ bitOf (eqb (getD s (11 + r) 0) 1)
+  bit r h = sym (bit-back (getD s (11 + r) 0) (clear r h))
+
+  -- behind the last relation or not, an applied word is as it was
+  stays : (r : ℕ) → getD s (3 + r) 0 ≡ pick (ltb r (relationCount (q .envelope))) (getD s (3 + r) 0) (getD s (3 + r) 0)
+  stays r = sym (either-same (ltb r (relationCount (q .envelope))) (getD s (3 + r) 0))
+
+  words-back : map (λ j. getD s j 0) (numbersFrom 0 19) ≡ wordsOf (endOf q s) s
+  unfolding endOf appliedIn arrivedIn appliedWord asWord numbersFrom
+  words-back =
+      words-are (endOf q s) s (relationCount (q .envelope)) refl _ _ _ _ _ _ _ _ _ (omega (arith, counted)) (stays 0) (stays 1) (stays 2)
+      (stays 3) (stays 4) (stays 5) (stays 6) (stays 7) _ _ _ _ _ _ _ _ (bit 0 (omega arith)) (bit 1 (omega arith)) (bit 2 (omega arith))
+      (bit 3 (omega arith)) (bit 4 (omega arith)) (bit 5 (omega arith)) (bit 6 (omega arith)) (bit 7 (omega arith))
+
+  pub state-back : stateAfter (endOf q s) s ≡ s
+  unfolding stateAfter
+  state-back = sym (ap (λ (w : List ℕ). sets s 0 w) words-back) ∙ sets-same s 0 19

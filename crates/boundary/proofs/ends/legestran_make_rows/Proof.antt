@@ -1,0 +1,61 @@
+use Rattle.boundary.proofs.EndLaws.{rows-refused, rows-taken}
+use borrow.Author.Needs.{needs}
+use native.Mathlib.Omega.{arith}
+use Rattle.boundary.proofs.ends.legestran_make_rows.Statement.{statement}
+use Rattle.boundary.proofs.ends.legestran_make_rows.Tie as tie
+use Rattle.boundary.proofs.ends.legestran_make_rows.Reads as reads
+use Rattle.boundary.proofs.ends.legestran_make_rows.Lts as lts
+use Rattle.boundary.proofs.answers.answer_of.Reads as answer-of-reads
+use Rattle.boundary.proofs.answers.of_made.Reads as of-made-reads
+use Rattle.boundary.proofs.given.read_end.Reads as read-end-reads
+use Rattle.station.proofs.making.make_rows.Reads as make-rows-reads
+
+-- src/ends.rt:142:9
+read-end-requires : tie.Need-read-end-requires
+read-end-requires c κs = search needs
+
+-- src/ends.rt:145:28
+enum-known-verdict : tie.Need-enum-known-verdict
+enum-known-verdict c = search needs
+
+-- src/ends.rt:145:50
+answer-of-requires : tie.Need-answer-of-requires
+answer-of-requires c κs = search needs
+
+-- src/ends.rt:147:17
+enum-told : tie.Need-enum-told
+enum-told c = search needs
+
+-- src/ends.rt:148:17
+make-rows-requires : tie.Need-make-rows-requires
+make-rows-requires c κs = search needs
+
+-- src/ends.rt:149:13
+of-made-requires : tie.Need-of-made-requires
+of-made-requires c κs = search needs
+
+-- src/ends.rt:130:1
+returns : tie.Need-returns
+returns c = rows-refused _ _ _ _ _ _ _ _ (c .before .before .before .before .read-end .ensures) _ _ _ (c .before .before .verdict .given .1) (c .answer-of .ensures)
+
+-- src/ends.rt:130:1
+same-length : tie.Need-same-length
+same-length c = omega arith
+
+-- src/ends.rt:130:1
+returns-2 : tie.Need-returns-2
+returns-2 c = rows-taken _ _ _ _ _ _ _ _ (c .before .before .before .before .before .before .before .before .read-end .ensures) (c .before .before .before .before .before .before .enum-told .given .1) _ _ _ (c .before .before .before .make-rows .ensures) (c .of-made .ensures)
+
+pub legestran-make-rows-spec : {M : Type 1} → statement M
+legestran-make-rows-spec =
+    tie.close
+    (tie.spec
+    read-end-requires
+    enum-known-verdict
+    answer-of-requires
+    enum-told
+    make-rows-requires
+    of-made-requires
+    returns
+    same-length
+    returns-2)

@@ -1,0 +1,61 @@
+use Rattle.boundary.proofs.EndLaws.{values-refused, values-taken}
+use borrow.Author.Needs.{needs}
+use native.Mathlib.Omega.{arith}
+use Rattle.boundary.proofs.ends.legestran_make_values.Statement.{statement}
+use Rattle.boundary.proofs.ends.legestran_make_values.Tie as tie
+use Rattle.boundary.proofs.ends.legestran_make_values.Reads as reads
+use Rattle.boundary.proofs.ends.legestran_make_values.Lts as lts
+use Rattle.boundary.proofs.answers.answer_of.Reads as answer-of-reads
+use Rattle.boundary.proofs.answers.of_made.Reads as of-made-reads
+use Rattle.boundary.proofs.given.read_end.Reads as read-end-reads
+use Rattle.station.proofs.making.make_values.Reads as make-values-reads
+
+-- src/ends.rt:117:9
+read-end-requires : tie.Need-read-end-requires
+read-end-requires c κs = search needs
+
+-- src/ends.rt:120:28
+enum-known-verdict : tie.Need-enum-known-verdict
+enum-known-verdict c = search needs
+
+-- src/ends.rt:120:50
+answer-of-requires : tie.Need-answer-of-requires
+answer-of-requires c κs = search needs
+
+-- src/ends.rt:122:17
+enum-told : tie.Need-enum-told
+enum-told c = search needs
+
+-- src/ends.rt:123:17
+make-values-requires : tie.Need-make-values-requires
+make-values-requires c κs = search needs
+
+-- src/ends.rt:124:13
+of-made-requires : tie.Need-of-made-requires
+of-made-requires c κs = search needs
+
+-- src/ends.rt:105:1
+returns : tie.Need-returns
+returns c = values-refused _ _ _ _ _ _ _ _ (c .before .before .before .before .read-end .ensures) _ _ _ (c .before .before .verdict .given .1) (c .answer-of .ensures)
+
+-- src/ends.rt:105:1
+same-length : tie.Need-same-length
+same-length c = omega arith
+
+-- src/ends.rt:105:1
+returns-2 : tie.Need-returns-2
+returns-2 c = values-taken _ _ _ _ _ _ _ _ (c .before .before .before .before .before .before .before .before .read-end .ensures) (c .before .before .before .before .before .before .enum-told .given .1) _ _ _ (c .before .before .before .make-values .ensures) (c .of-made .ensures)
+
+pub legestran-make-values-spec : {M : Type 1} → statement M
+legestran-make-values-spec =
+    tie.close
+    (tie.spec
+    read-end-requires
+    enum-known-verdict
+    answer-of-requires
+    enum-told
+    make-values-requires
+    of-made-requires
+    returns
+    same-length
+    returns-2)

@@ -1,0 +1,36 @@
+use Rattle.boundary.proofs.EndLaws.{refuse-same, refuse-short}
+use borrow.Author.Needs.{needs}
+use Rattle.boundary.proofs.ends.refuse_opening.Statement.{statement}
+use Rattle.boundary.proofs.ends.refuse_opening.Tie as tie
+use Rattle.boundary.proofs.ends.refuse_opening.Reads as reads
+use Rattle.boundary.proofs.ends.refuse_opening.Lts as lts
+use Rattle.station.proofs.opening.open.Reads as open-reads
+
+-- src/ends.rt:39:79
+slice-aggregate-open : tie.Need-slice-aggregate-open
+slice-aggregate-open c = search needs
+
+-- src/ends.rt:39:9
+open-requires : tie.Need-open-requires
+open-requires c κs = search needs
+
+-- src/ends.rt:42:28
+enum-known-verdict : tie.Need-enum-known-verdict
+enum-known-verdict c = search needs
+
+-- src/ends.rt:43:27
+enum-told : tie.Need-enum-told
+enum-told c = search needs
+
+-- src/ends.rt:29:1
+returns : tie.Need-returns
+returns c = refuse-same _ _ _ _ _ _ _ (c .before .before .before .before .«open» .ensures .0) _ _ (c .before .verdict .given .1)
+
+-- src/ends.rt:29:1
+returns-2 : tie.Need-returns-2
+returns-2 c = refuse-short _ _ _ _ _ _ _ (c .before .before .before .«open» .ensures .0) (c .enum-told .given .1)
+
+pub refuse-opening-spec : {M : Type 1} → statement M
+refuse-opening-spec =
+    tie.close
+    (tie.spec slice-aggregate-open open-requires enum-known-verdict enum-told returns returns-2)

@@ -1,0 +1,66 @@
+use Rattle.boundary.proofs.PlanningLaws.{estimate-refused, estimate-taken}
+use borrow.Author.Needs.{needs}
+use Rattle.boundary.proofs.planning.legestran_estimate.Statement.{statement}
+use Rattle.boundary.proofs.planning.legestran_estimate.Tie as tie
+use Rattle.boundary.proofs.planning.legestran_estimate.Reads as reads
+use Rattle.boundary.proofs.planning.legestran_estimate.Lts as lts
+use Rattle.boundary.proofs.answers.answer_of.Reads as answer-of-reads
+use Rattle.boundary.proofs.answers.of_made.Reads as of-made-reads
+use Rattle.boundary.proofs.given.read_papers.Reads as read-papers-reads
+use Rattle.boundary.proofs.planning.put_estimate.Reads as put-estimate-reads
+use Rattle.estimates.proofs.estimator.estimate.Reads as estimate-reads
+
+-- src/planning.rt:152:9
+read-papers-requires : tie.Need-read-papers-requires
+read-papers-requires c κs = search needs
+
+-- src/planning.rt:155:28
+enum-known-verdict : tie.Need-enum-known-verdict
+enum-known-verdict c = search needs
+
+-- src/planning.rt:155:50
+answer-of-requires : tie.Need-answer-of-requires
+answer-of-requires c κs = search needs
+
+-- src/planning.rt:157:17
+enum-told : tie.Need-enum-told
+enum-told c = search needs
+
+-- src/planning.rt:160:17
+estimate-requires : tie.Need-estimate-requires
+estimate-requires c κs = search needs
+
+-- src/planning.rt:162:17
+put-estimate-requires : tie.Need-put-estimate-requires
+put-estimate-requires c κs = search needs
+
+-- src/planning.rt:163:13
+of-made-requires : tie.Need-of-made-requires
+of-made-requires c κs = search needs
+
+-- src/planning.rt:148:1
+returns : tie.Need-returns
+returns c = estimate-refused _ _ _ _ (c .before .before .before .before .read-papers .ensures) _ _ _ (c .before .before .verdict .given .1) (c .answer-of .ensures)
+
+-- src/planning.rt:148:1
+same-length : tie.Need-same-length
+same-length c = search needs
+
+-- src/planning.rt:148:1
+returns-2 : tie.Need-returns-2
+returns-2 c = estimate-taken _ _ _ _ (c .before .before .before .before .before .before .before .before .before .before .before .before .read-papers .ensures) (c .before .before .before .before .before .before .before .before .before .before .enum-told .given .1) _ _ _ _ (c .before .before .before .before .before .before .estimate .ensures) (c .before .before .before .put-estimate .ensures) (c .of-made .ensures)
+
+pub legestran-estimate-spec : {M : Type 1} → statement M
+legestran-estimate-spec =
+    tie.close
+    (tie.spec
+    read-papers-requires
+    enum-known-verdict
+    answer-of-requires
+    enum-told
+    estimate-requires
+    put-estimate-requires
+    of-made-requires
+    returns
+    same-length
+    returns-2)

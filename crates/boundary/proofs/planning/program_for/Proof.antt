@@ -1,0 +1,23 @@
+use Rattle.boundary.proofs.PlanningLaws.{program-is}
+use borrow.Author.Needs.{needs}
+use Rattle.boundary.proofs.planning.program_for.Statement.{statement}
+use Rattle.boundary.proofs.planning.program_for.Tie as tie
+use Rattle.boundary.proofs.planning.program_for.Reads as reads
+use Rattle.boundary.proofs.planning.program_for.Lts as lts
+use Rattle.boundary.proofs.planning.steps_in.Reads as steps-in-reads
+use Rattle.planner.proofs.planner.plan_paper.Reads as plan-paper-reads
+
+-- src/planning.rt:53:9
+plan-paper-requires : tie.Need-plan-paper-requires
+plan-paper-requires c κs = search needs
+
+-- src/planning.rt:55:9
+steps-in-requires : tie.Need-steps-in-requires
+steps-in-requires c κs = search needs
+
+-- src/planning.rt:50:1
+returns : tie.Need-returns
+returns c = program-is _ _ _ (c .before .before .plan-paper .ensures) (c .steps-in .ensures)
+
+pub program-for-spec : {M : Type 1} → statement M
+program-for-spec = tie.close (tie.spec plan-paper-requires steps-in-requires returns)

@@ -1,0 +1,31 @@
+use native.Mathlib.Omega.{arith}
+use mathlib.Core.Path.{sym}
+use lib.Seq.{set-out}
+use borrow.Author.Needs.{needs}
+use Rattle.boundary.proofs.planning.put_word.Statement.{statement}
+use Rattle.boundary.proofs.planning.put_word.Tie as tie
+use Rattle.boundary.proofs.planning.put_word.Reads as reads
+use Rattle.boundary.proofs.planning.put_word.Lts as lts
+
+-- src/planning.rt:86:9
+mul-out : tie.Need-mul-out
+mul-out c = search needs
+
+-- src/planning.rt:86:9
+slice-write-out : tie.Need-slice-write-out
+slice-write-out c = search needs
+
+-- src/planning.rt:82:1
+same-length : tie.Need-same-length
+same-length c = search needs
+
+-- src/planning.rt:82:1
+returns : tie.Need-returns
+returns c = search needs
+
+-- src/planning.rt:82:1
+returns-2 : tie.Need-returns-2
+returns-2 c = sym (set-out _ _ _ (omega arith))
+
+pub put-word-spec : {M : Type 1} → statement M
+put-word-spec = tie.close (tie.spec mul-out slice-write-out same-length returns returns-2)

@@ -1,0 +1,75 @@
+use mathlib.Core.Path.{refl}
+use Prim.Native.Nat.{_-_}
+use Rattle.ground.proofs.PuttingLaws.{Copying, copying-start}
+use Rattle.boundary.specs.Planning.{stepsIn}
+use Rattle.boundary.proofs.PlanningLaws.{steps-start, steps-more, steps-done}
+use borrow.Author.Needs.{needs}
+use native.Mathlib.Omega.{arith}
+use Rattle.boundary.proofs.planning.steps_in.Statement.{statement}
+use Rattle.boundary.proofs.planning.steps_in.Tie as tie
+use Rattle.boundary.proofs.planning.steps_in.Reads as reads
+use Rattle.boundary.proofs.planning.steps_in.Lts as lts
+use Rattle.entries.proofs.places.no_place.Reads as no-place-reads
+
+abbrev Inv-loop : tie.InvT-loop
+Inv-loop lines steps₀ i₀ steps i = Copying (stepsIn lines) steps₀ 0 156 i i steps
+
+abbrev μ-loop : tie.MeasureT-loop
+μ-loop lines steps₀ i₀ steps i = 156 - i
+
+-- src/planning.rt:32:9
+no-place-requires : tie.Need-no-place-requires Inv-loop μ-loop
+no-place-requires c κs = search needs
+
+-- src/planning.rt:39:5
+loop-holds : tie.Need-loop-holds Inv-loop μ-loop
+loop-holds c = copying-start _ _ _ _ (steps-start _ (omega arith))
+
+-- src/planning.rt:40:20
+mul-line : tie.Need-mul-line Inv-loop μ-loop
+mul-line c = omega arith
+
+-- src/planning.rt:40:20
+array-copy-out-line : tie.Need-array-copy-out-line Inv-loop μ-loop
+array-copy-out-line c = omega arith
+
+-- src/planning.rt:42:9
+mul-steps : tie.Need-mul-steps Inv-loop μ-loop
+mul-steps c = omega arith
+
+-- src/planning.rt:42:9
+array-set-from-steps : tie.Need-array-set-from-steps Inv-loop μ-loop
+array-set-from-steps c = omega arith
+
+-- src/planning.rt:43:9
+add-i : tie.Need-add-i Inv-loop μ-loop
+add-i c = omega arith
+
+-- src/planning.rt:39:5
+loop-less : tie.Need-loop-less Inv-loop μ-loop
+loop-less c = omega arith
+
+-- src/planning.rt:39:5
+loop-again : tie.Need-loop-again Inv-loop μ-loop
+loop-again c = steps-more _ _ _ _ (c .before .before .before .loop .inv) (omega arith) (c .before .before .loop-test .taken) _ _ refl
+
+-- src/planning.rt:29:1
+returns : tie.Need-returns Inv-loop μ-loop
+returns c = steps-done _ _ _ _ (c .before .loop .inv) (omega arith) (c .loop-test .left) refl
+
+pub steps-in-spec : {M : Type 1} → statement M
+steps-in-spec =
+    tie.close
+    (tie.spec
+    Inv-loop
+    μ-loop
+    no-place-requires
+    loop-holds
+    mul-line
+    array-copy-out-line
+    mul-steps
+    array-set-from-steps
+    add-i
+    loop-less
+    loop-again
+    returns)

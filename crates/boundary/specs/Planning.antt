@@ -1,0 +1,62 @@
+-- The calls that plan and estimate: the program handed out for an envelope, written; and what a program is expected to cost, in
+-- words: benefit and cost of each step, then assembly and total, each number as two words, the low one first.
+use Prim.Native.Nat.{ℕ, _%_, _/_}
+use mathlib.Core.List.{List, [], _∷_, _++_, map}
+use lib.ListN.{take}
+use Rattle.ground.specs.Lists.{each}
+use Rattle.ground.specs.Outcome.{Outcome, next}
+use Rattle.ground.specs.Outcome.Outcome.{good, bad}
+use Rattle.ground.specs.declared.Verdict.{Verdict}
+use Rattle.ground.specs.declared.Verdict.the-variants as verdict
+use Rattle.envelopes.specs.Envelope.{readEnvelope, checkEnvelope}
+use Rattle.papers.specs.Programs.{checkProgram}
+use Rattle.papers.specs.declared.programs.Program.{Program}
+use Rattle.papers.specs.declared.checks.Papers.{Papers}
+use Rattle.estimates.specs.Estimate.{estimateOf}
+use Rattle.planner.specs.Plan.{planOf}
+use Rattle.estimates.specs.declared.lines.Line.{Line}
+use Rattle.planner.specs.declared.plans.Plan.{Plan}
+use Rattle.estimates.specs.declared.lines.Estimate.{Estimate}
+use Rattle.paths.specs.declared.steps.Step.{Step}
+use Rattle.station.specs.Making.{fitted}
+use Rattle.boundary.specs.Given.{papersIn}
+
+-- ---- the program handed out
+
+unfoldable pub stepsIn : List Line → List Step
+stepsIn lines = map (λ (l : Line). l .step) lines
+
+unfoldable pub programOf : Plan → Program
+programOf x = record { site = x .site; count = x .count; steps = stepsIn (x .lines) }
+
+unfoldable pub programFor : List ℕ → Program
+programFor s = programOf (planOf (readEnvelope s))
+
+-- checked before it is written, as any program is
+unfoldable pub planned : List ℕ → Outcome Program
+planned s = next (readEnvelope s) (λ e _. checkProgram e (programFor s))
+
+-- ---- the estimate
+
+-- a number as two words
+unfoldable pub pairOf : ℕ → List ℕ
+pairOf n = n % 4294967296 ∷ n / 4294967296 ∷ []
+
+unfoldable pub lineWords : Line → List ℕ
+lineWords l = pairOf (l .benefit) ++ pairOf (l .cost)
+
+unfoldable pub estimateWords : Estimate → List ℕ
+estimateWords x = each lineWords (take (x .count) (x .lines)) ++ (pairOf (x .assembly) ++ pairOf (x .total))
+
+-- a refusal, or what comes after
+unfoldable pub unless : {A : Type 0} → Verdict → Outcome A → Outcome A
+unless verdict.Taken o = o
+unless (verdict.Refused n p) o = bad n p
+
+unfoldable pub estimateWith : Estimate → ℕ → Outcome (List ℕ)
+estimateWith x room = unless (x .verdict) (fitted room (estimateWords x))
+
+unfoldable pub estimateFrom : List ℕ → List ℕ → ℕ → Outcome (List ℕ)
+estimateFrom e p room =
+    next (papersIn e p)
+    (λ q _. estimateWith (estimateOf (checkEnvelope (q .envelope)) (checkProgram (q .envelope) (q .program))) room)

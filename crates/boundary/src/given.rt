@@ -1,0 +1,132 @@
+// Papers given as bytes, and an end given as papers and words: read, or refused.
+use fields::refusals;
+use ground::Verdict;
+use papers::checks::Papers;
+use papers::checks::PapersRead;
+use papers::programs::Program;
+use paths::steps::Step;
+use station::ends::End;
+ghost use mathlib.Core.Path.{_≡_};
+ghost use Rattle.ground.specs.Outcome.{verdictOf};
+ghost use Rattle.ground.specs.Outcome.Outcome.{bad};
+ghost use Rattle.envelopes.specs.Envelope.{readEnvelope};
+ghost use Rattle.papers.specs.Checks.{noPapers, shownPapers};
+ghost use Rattle.boundary.specs.Answers.{verdictWord};
+ghost use Rattle.boundary.specs.Given.{papersIn, endIn, shownEnd};
+
+// The end, or the refusal with the empty end beside it.
+pub struct EndRead {
+    pub verdict: Verdict,
+    pub end: End,
+}
+
+// The papers, or the refusal with empty ones beside it.
+pub(crate) fn read_papers(envelope: &[u8], program: &[u8]) -> PapersRead
+    ensures { λ r. ⌜ r ≡ shownPapers (papersIn (now (envelope .entry)) (now (program .entry))) ⌝ }
+{
+    let read = envelopes::reading::read_envelope(envelope);
+    let own = read.envelope;
+    let against = papers::programs::read_program(own, program);
+    let steps = against.program;
+    let verdict = read.verdict;
+    let found = against.verdict;
+    match verdict {
+        Verdict::Refused { number, position } => refused_papers(number, position),
+        Verdict::Taken => match found {
+            Verdict::Refused { number, position } => refused_papers(number, position),
+            Verdict::Taken => PapersRead {
+                verdict: Verdict::Taken,
+                papers: Papers {
+                    envelope: own,
+                    program: steps,
+                },
+            },
+        },
+    }
+}
+
+// What stands beside a refusal.
+fn no_papers() -> Papers
+    ensures { λ r. ⌜ r ≡ noPapers ⌝ }
+{
+    let envelope = contents::envelope::no_envelope();
+    let place = entries::places::no_place();
+    let step = Step {
+        left: place,
+        right: place,
+    };
+    let steps = [step; 156];
+    let program = Program {
+        site: 0,
+        count: 0,
+        steps: steps,
+    };
+    Papers { envelope, program }
+}
+
+fn refused_papers(number: u8, position: usize) -> PapersRead
+    ensures { λ r. ⌜ r ≡ shownPapers (bad number position) ⌝ }
+{
+    let none = no_papers();
+    PapersRead {
+        verdict: Verdict::Refused { number, position },
+        papers: none,
+    }
+}
+
+fn refused_end(number: u8, position: usize) -> EndRead
+    ensures { λ r. ⌜ r ≡ shownEnd (bad number position) ⌝ }
+{
+    let none = no_papers();
+    let zeros = [0u32; 19];
+    let end = crate::states::end_of(none, &zeros);
+    EndRead {
+        verdict: Verdict::Refused { number, position },
+        end: end,
+    }
+}
+
+// The end that papers and words are: 11 at 0, the papers, 4 at 0.
+pub(crate) fn read_end(envelope: &[u8], program: &[u8], state: &[u32]) -> EndRead
+    ensures { λ r. ⌜ r ≡ shownEnd (endIn (now (envelope .entry)) (now (program .entry)) (now (state .entry))) ⌝ }
+{
+    if state.len() < 19 {
+        return refused_end(refusals::TOO_SHORT, 0);
+    }
+    let read = read_papers(envelope, program);
+    let verdict = read.verdict;
+    match verdict {
+        Verdict::Refused { number, position } => refused_end(number, position),
+        Verdict::Taken => {
+            if crate::states::is_unclear(state) {
+                return refused_end(refusals::BEYOND_LIMIT, 0);
+            }
+            let papers = read.papers;
+            let end = crate::states::end_of(papers, state);
+            EndRead {
+                verdict: Verdict::Taken,
+                end: end,
+            }
+        }
+    }
+}
+
+// 1: an envelope is read. Taken, 0.
+#[no_mangle]
+pub extern "C" fn legestran_read_envelope(envelope: &[u8]) -> u64
+    ensures { λ r. ⌜ r ≡ verdictWord (verdictOf (readEnvelope (now (envelope .entry)))) ⌝ }
+{
+    let read = envelopes::reading::read_envelope(envelope);
+    let verdict = read.verdict;
+    crate::answers::of_verdict(verdict)
+}
+
+// 2: an envelope, then a program for it, is read. Taken, 0.
+#[no_mangle]
+pub extern "C" fn legestran_read_program(envelope: &[u8], program: &[u8]) -> u64
+    ensures { λ r. ⌜ r ≡ verdictWord (verdictOf (papersIn (now (envelope .entry)) (now (program .entry)))) ⌝ }
+{
+    let read = read_papers(envelope, program);
+    let verdict = read.verdict;
+    crate::answers::of_verdict(verdict)
+}
