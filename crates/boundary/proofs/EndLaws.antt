@@ -25,11 +25,11 @@ use Rattle.papers.proofs.CheckLaws.{papers-taken, papers-refused}
 use Rattle.tables.specs.Offsets.{rowCount}
 use Rattle.tables.specs.Shape.{shaped}
 use Rattle.station.specs.Calls.{leaves}
-use Rattle.station.specs.Ends.{Marked, startOf, noEnd}
+use Rattle.ends.specs.Ends.{Marked, startOf, noEnd}
 use Rattle.station.specs.Opening.{openWith, openOf, shownOpened, openedMarks}
 use Rattle.station.specs.Making.{makeValuesOf, makeRowsOf, shownMade, madeIn}
 use Rattle.station.specs.Receiving.{Held, receiveOf, shownReceived, receivedMarks, receivedStore}
-use Rattle.station.specs.declared.ends.End.{End}
+use Rattle.ends.specs.declared.ends.End.{End}
 use Rattle.station.specs.declared.opening.Opened.{Opened}
 use Rattle.station.specs.declared.making.Made.{Made}
 use Rattle.station.specs.declared.receiving.Received.{Received}

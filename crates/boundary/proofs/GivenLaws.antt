@@ -26,8 +26,8 @@ use Rattle.papers.specs.declared.checks.Papers.{Papers}
 use Rattle.papers.specs.declared.checks.PapersRead.{PapersRead}
 use Rattle.papers.proofs.ProgramCodeLaws.{program-taken, program-refused}
 use Rattle.papers.proofs.CheckLaws.{papers-taken, papers-refused}
-use Rattle.station.specs.Ends.{noEnd}
-use Rattle.station.specs.declared.ends.End.{End}
+use Rattle.ends.specs.Ends.{noEnd}
+use Rattle.ends.specs.declared.ends.End.{End}
 use Rattle.boundary.specs.States.{unclear, endOf, appliedIn, arrivedIn}
 use Rattle.boundary.specs.Given.{papersIn, endIn, shownEnd}
 use Rattle.boundary.specs.declared.given.EndRead.{EndRead}

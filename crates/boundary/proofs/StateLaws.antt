@@ -16,7 +16,7 @@ use Rattle.ground.proofs.SearchingLaws.{Looking, some-more, some-found, some-no
 use Rattle.ground.proofs.PuttingLaws.{Copying, copying-done}
 use Rattle.contents.specs.Parts.{relationCount}
 use Rattle.papers.specs.declared.checks.Papers.{Papers}
-use Rattle.station.specs.declared.ends.End.{End}
+use Rattle.ends.specs.declared.ends.End.{End}
 use Rattle.boundary.specs.Answers.{asWord}
 use Rattle.boundary.specs.States.{places, appliedIn, arrivedIn, unclearAt, unclear, endOf, bitOf, appliedWord, wordsOf, stateAfter}
 

@@ -10,11 +10,11 @@ use Rattle.fields.specs.Refusals.{beyondLimit, tooShort}
 use Rattle.contents.specs.declared.envelope.Envelope.{Envelope}
 use Rattle.papers.specs.declared.programs.Program.{Program}
 use Rattle.station.specs.Calls.{leaves}
-use Rattle.station.specs.Ends.{Marked}
+use Rattle.ends.specs.Ends.{Marked}
 use Rattle.station.specs.Opening.{openOf}
 use Rattle.station.specs.Making.{makeValuesOf, makeRowsOf}
 use Rattle.station.specs.Receiving.{Held, receiveOf}
-use Rattle.station.specs.declared.ends.End.{End}
+use Rattle.ends.specs.declared.ends.End.{End}
 use Rattle.answerer.specs.Assembly.{assembledOutcome}
 use Rattle.boundary.specs.States.{stateAfter}
 use Rattle.boundary.specs.Given.{papersIn, endIn}

@@ -11,8 +11,8 @@ use Rattle.fields.specs.Refusals.{beyondLimit, tooShort}
 use Rattle.envelopes.specs.Envelope.{readEnvelope}
 use Rattle.papers.specs.Programs.{readProgram}
 use Rattle.papers.specs.declared.checks.Papers.{Papers}
-use Rattle.station.specs.Ends.{noEnd}
-use Rattle.station.specs.declared.ends.End.{End}
+use Rattle.ends.specs.Ends.{noEnd}
+use Rattle.ends.specs.declared.ends.End.{End}
 use Rattle.boundary.specs.States.{unclear, endOf}
 use Rattle.boundary.specs.declared.given.EndRead.{EndRead}
 

@@ -10,7 +10,7 @@ use Rattle.ground.specs.Tests.{pick}
 use Rattle.ground.specs.Lists.{any, below}
 use Rattle.contents.specs.Parts.{relationCount}
 use Rattle.papers.specs.declared.checks.Papers.{Papers}
-use Rattle.station.specs.declared.ends.End.{End}
+use Rattle.ends.specs.declared.ends.End.{End}
 use Rattle.boundary.specs.Answers.{asWord}
 
 -- the eight places of relations

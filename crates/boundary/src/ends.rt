@@ -1,9 +1,9 @@
 // The calls on an end that the caller keeps as 19 words: opened, messages made and received, the answer.
 use contents::envelope::Envelope;
+use ends::ends::End;
 use fields::refusals;
 use ground::Verdict;
 use papers::programs::Program;
-use station::ends::End;
 ghost use mathlib.Core.Path.{_≡_};
 ghost use mathlib.Core.List.{[]};
 ghost use Prim.Native.Nat.{_≤_};

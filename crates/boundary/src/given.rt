@@ -1,11 +1,11 @@
 // Papers given as bytes, and an end given as papers and words: read, or refused.
+use ends::ends::End;
 use fields::refusals;
 use ground::Verdict;
 use papers::checks::Papers;
 use papers::checks::PapersRead;
 use papers::programs::Program;
 use paths::steps::Step;
-use station::ends::End;
 ghost use mathlib.Core.Path.{_≡_};
 ghost use Rattle.ground.specs.Outcome.{verdictOf};
 ghost use Rattle.ground.specs.Outcome.Outcome.{bad};

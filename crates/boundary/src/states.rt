@@ -1,6 +1,6 @@
 // What an end remembers between calls, as 19 words: site, run, used, applied 0 to 7, arrived 0 to 7.
+use ends::ends::End;
 use papers::checks::Papers;
-use station::ends::End;
 ghost use mathlib.Core.Path.{_≡_};
 ghost use Prim.Native.Nat.{_≤_, _<_, min};
 ghost use lib.ListN.{length};
