@@ -14,3 +14,4 @@ pub mod OrderLaws
 pub mod AssembledLaws
 pub mod RoomLaws
 pub mod DemandThreeLaws
+pub mod Figures
