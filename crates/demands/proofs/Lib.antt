@@ -1,5 +1,6 @@
 -- The demands hold.
 pub mod DemandOneLaws
+pub mod CrewLaws
 pub mod TakenLaws
 pub mod RunLaws
 pub mod AppendedLaws
