@@ -1,6 +1,6 @@
 -- "Value message, in words: run, step number from 0, count, then column B's distinct kept values rising." "Row message: run,
 -- 256 plus relation, row count, kept columns of kept rows in table order." How a message's words are made, and how they are
--- understood; nothing else knows.
+-- understood; the code names their places in one module.
 use Prim.Native.Nat.{ℕ, _+_, _*_, _-_}
 use mathlib.Core.Bool.{Bool, _&&_}
 use mathlib.Core.List.{List, _∷_}

@@ -1,5 +1,5 @@
 // The words of messages: where each stands, what the second word speaks of, whether there are as many words as the count
-// says, and the three words in front. No other place knows where a word stands.
+// says, and the three words in front. The places of a message's words are named here alone.
 ghost use mathlib.Core.Path.{_≡_};
 ghost use mathlib.Core.List.{[]};
 ghost use Prim.Native.Nat.{_≤_, _<_};

@@ -1,6 +1,7 @@
 -- "The station end knows the semi-join only by what the semi-join promises." This is the promise: what holds of the kept rows,
 -- of a column's values, of the same values rising, of the marks after a step by some values, and of the marks at opening. The
--- floors above go by it alone, and for the refusals and effects of the calls by proofs/CallLaws.antt.
+-- station's end goes by it, and for the refusals and effects of the calls by proofs/CallLaws.antt; that a legal step and local
+-- operations keep the answer is in proofs/AnswerLaws.antt and RunLaws.antt.
 use Prim.Native.Nat.{ℕ, _+_, _≤_, _<_}
 use mathlib.Core.Path.{_≡_}
 use mathlib.Core.Bool.{Bool, true, _&&_}
