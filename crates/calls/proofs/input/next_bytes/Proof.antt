@@ -1,0 +1,127 @@
+use lib.ListN.{length}
+use mathlib.Core.Path.{_≡_}
+use Prim.Native.Nat.{_-_, _≤_}
+use borrow.Author.Needs.{needs}
+use native.Mathlib.Omega.{arith}
+use Rattle.calls.proofs.input.next_bytes.Statement.{statement}
+use Rattle.calls.proofs.input.next_bytes.Tie as tie
+use Rattle.calls.proofs.input.next_bytes.Reads as reads
+use Rattle.calls.proofs.input.next_bytes.Lts as lts
+use Rattle.calls.proofs.input.damaged.Reads as damaged-reads
+use Rattle.calls.proofs.input.least.Reads as least-reads
+use Rattle.calls.proofs.input.next_length.Reads as next-length-reads
+use Rattle.calls.proofs.input.take_bytes.Reads as take-bytes-reads
+use Rattle.io.proofs.buffer.Reads as buffer-reads
+
+abbrev Inv-loop : tie.InvT-loop
+Inv-loop sound buffer₀ whole n space₀ done₀ buffer space done = (done ≤ n) × (n ≤ 40960) × (n ≤ length buffer₀) × (length buffer ≡ length buffer₀) × (length space ≡ 4096)
+
+abbrev μ-loop : tie.MeasureT-loop
+μ-loop sound buffer₀ whole n space₀ done₀ buffer space done = n - done
+
+-- src/input.rt:179:9
+next-length-requires : tie.Need-next-length-requires Inv-loop μ-loop
+next-length-requires c κs = search needs
+
+-- src/input.rt:181:21
+buffer-requires : tie.Need-buffer-requires Inv-loop μ-loop
+buffer-requires c κs = search needs
+
+-- src/input.rt:183:5
+loop-holds : tie.Need-loop-holds Inv-loop μ-loop
+loop-holds c = (omega arith, omega arith, omega arith, omega arith, omega arith)
+
+-- src/input.rt:184:26
+sub-least : tie.Need-sub-least Inv-loop μ-loop
+sub-least c = omega arith
+
+-- src/input.rt:184:13
+least-requires : tie.Need-least-requires Inv-loop μ-loop
+least-requires c κs = search needs
+
+-- src/input.rt:185:36
+slice-aggregate-read-part : tie.Need-slice-aggregate-read-part Inv-loop μ-loop
+slice-aggregate-read-part c = omega arith
+
+-- src/input.rt:185:13
+read-part-requires : tie.Need-read-part-requires Inv-loop μ-loop
+read-part-requires c κs = omega arith
+
+-- src/input.rt:187:13
+damaged-requires : tie.Need-damaged-requires Inv-loop μ-loop
+damaged-requires c κs = search needs
+
+-- src/input.rt:187:13
+same-length : tie.Need-same-length Inv-loop μ-loop
+same-length c = omega arith
+
+-- src/input.rt:187:13
+returns : tie.Need-returns Inv-loop μ-loop
+returns c = (omega arith, omega arith)
+
+-- src/input.rt:189:24
+slice-aggregate-take-bytes : tie.Need-slice-aggregate-take-bytes Inv-loop μ-loop
+slice-aggregate-take-bytes c = omega arith
+
+-- src/input.rt:189:13
+take-bytes-requires : tie.Need-take-bytes-requires Inv-loop μ-loop
+take-bytes-requires c κs = (omega arith, omega arith)
+
+-- src/input.rt:190:13
+damaged-requires-2 : tie.Need-damaged-requires-2 Inv-loop μ-loop
+damaged-requires-2 c κs = search needs
+
+-- src/input.rt:190:13
+same-length-2 : tie.Need-same-length-2 Inv-loop μ-loop
+same-length-2 c = omega arith
+
+-- src/input.rt:190:13
+returns-2 : tie.Need-returns-2 Inv-loop μ-loop
+returns-2 c = (omega arith, omega arith)
+
+-- src/input.rt:192:9
+add-done : tie.Need-add-done Inv-loop μ-loop
+add-done c = omega arith
+
+-- src/input.rt:183:5
+loop-less : tie.Need-loop-less Inv-loop μ-loop
+loop-less c = omega arith
+
+-- src/input.rt:183:5
+loop-again : tie.Need-loop-again Inv-loop μ-loop
+loop-again c = (omega arith, omega arith, omega arith, omega arith, omega arith)
+
+-- src/input.rt:176:1
+same-length-3 : tie.Need-same-length-3 Inv-loop μ-loop
+same-length-3 c = omega arith
+
+-- src/input.rt:176:1
+returns-3 : tie.Need-returns-3 Inv-loop μ-loop
+returns-3 c = (omega arith, omega arith)
+
+pub next-bytes-spec : {M : Type 1} → statement M
+next-bytes-spec =
+    tie.close
+    (tie.spec
+    Inv-loop
+    μ-loop
+    next-length-requires
+    buffer-requires
+    loop-holds
+    sub-least
+    least-requires
+    slice-aggregate-read-part
+    read-part-requires
+    damaged-requires
+    same-length
+    returns
+    slice-aggregate-take-bytes
+    take-bytes-requires
+    damaged-requires-2
+    same-length-2
+    returns-2
+    add-done
+    loop-less
+    loop-again
+    same-length-3
+    returns-3)
