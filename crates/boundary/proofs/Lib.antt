@@ -5,4 +5,4 @@ pub mod GivenLaws
 pub mod CallLaws
 pub mod PlanningLaws
 pub mod RunningLaws
-pub mod EndLaws
+pub mod StationLaws

@@ -25,7 +25,7 @@ pub fn open(
     let words = t.count;
     let rows = m.count;
     let length = s.count;
-    let answer = boundary::ends::legestran_open(
+    let answer = boundary::stations::legestran_open(
         &envelope[..n],
         &program[..k],
         site.value,
@@ -64,7 +64,7 @@ pub fn make_values(
     let words = t.count;
     let rows = m.count;
     let room = o.count;
-    let answer = boundary::ends::legestran_make_values(
+    let answer = boundary::stations::legestran_make_values(
         &envelope[..n],
         &program[..k],
         &state[..length],
@@ -102,7 +102,7 @@ pub fn make_rows(
     let words = t.count;
     let rows = m.count;
     let room = o.count;
-    let answer = boundary::ends::legestran_make_rows(
+    let answer = boundary::stations::legestran_make_rows(
         &envelope[..n],
         &program[..k],
         &state[..length],
@@ -142,7 +142,7 @@ pub fn receive(
     let rows = m.count;
     let held = h.count;
     let sent = o.count;
-    let answer = boundary::ends::legestran_receive(
+    let answer = boundary::stations::legestran_receive(
         &envelope[..n],
         &program[..k],
         &mut state[..length],
@@ -178,7 +178,7 @@ pub fn answer_at_end(
     let length = s.count;
     let held = h.count;
     let room = o.count;
-    let answer = boundary::ends::legestran_answer_at_end(
+    let answer = boundary::stations::legestran_answer_at_end(
         &envelope[..n],
         &program[..k],
         &state[..length],

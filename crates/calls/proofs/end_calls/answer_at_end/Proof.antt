@@ -5,7 +5,7 @@ use Rattle.calls.proofs.end_calls.answer_at_end.Statement.{statement}
 use Rattle.calls.proofs.end_calls.answer_at_end.Tie as tie
 use Rattle.calls.proofs.end_calls.answer_at_end.Reads as reads
 use Rattle.calls.proofs.end_calls.answer_at_end.Lts as lts
-use Rattle.boundary.proofs.ends.legestran_answer_at_end.Reads as legestran-answer-at-end-reads
+use Rattle.boundary.proofs.stations.legestran_answer_at_end.Reads as legestran-answer-at-end-reads
 use Rattle.calls.proofs.input.next_bytes.Reads as next-bytes-reads
 use Rattle.calls.proofs.input.next_words.Reads as next-words-reads
 use Rattle.calls.proofs.output.put_answer.Reads as put-answer-reads

@@ -5,7 +5,7 @@ use Rattle.calls.proofs.end_calls.make_rows.Statement.{statement}
 use Rattle.calls.proofs.end_calls.make_rows.Tie as tie
 use Rattle.calls.proofs.end_calls.make_rows.Reads as reads
 use Rattle.calls.proofs.end_calls.make_rows.Lts as lts
-use Rattle.boundary.proofs.ends.legestran_make_rows.Reads as legestran-make-rows-reads
+use Rattle.boundary.proofs.stations.legestran_make_rows.Reads as legestran-make-rows-reads
 use Rattle.calls.proofs.input.next_bytes.Reads as next-bytes-reads
 use Rattle.calls.proofs.input.next_number.Reads as next-number-reads
 use Rattle.calls.proofs.input.next_words.Reads as next-words-reads

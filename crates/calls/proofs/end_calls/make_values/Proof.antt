@@ -5,7 +5,7 @@ use Rattle.calls.proofs.end_calls.make_values.Statement.{statement}
 use Rattle.calls.proofs.end_calls.make_values.Tie as tie
 use Rattle.calls.proofs.end_calls.make_values.Reads as reads
 use Rattle.calls.proofs.end_calls.make_values.Lts as lts
-use Rattle.boundary.proofs.ends.legestran_make_values.Reads as legestran-make-values-reads
+use Rattle.boundary.proofs.stations.legestran_make_values.Reads as legestran-make-values-reads
 use Rattle.calls.proofs.input.next_bytes.Reads as next-bytes-reads
 use Rattle.calls.proofs.input.next_number.Reads as next-number-reads
 use Rattle.calls.proofs.input.next_words.Reads as next-words-reads

@@ -5,7 +5,7 @@ use Rattle.calls.proofs.end_calls.open.Statement.{statement}
 use Rattle.calls.proofs.end_calls.open.Tie as tie
 use Rattle.calls.proofs.end_calls.open.Reads as reads
 use Rattle.calls.proofs.end_calls.open.Lts as lts
-use Rattle.boundary.proofs.ends.legestran_open.Reads as legestran-open-reads
+use Rattle.boundary.proofs.stations.legestran_open.Reads as legestran-open-reads
 use Rattle.calls.proofs.input.next_bytes.Reads as next-bytes-reads
 use Rattle.calls.proofs.input.next_number.Reads as next-number-reads
 use Rattle.calls.proofs.input.next_words.Reads as next-words-reads

@@ -5,7 +5,7 @@ use Rattle.calls.proofs.end_calls.receive.Statement.{statement}
 use Rattle.calls.proofs.end_calls.receive.Tie as tie
 use Rattle.calls.proofs.end_calls.receive.Reads as reads
 use Rattle.calls.proofs.end_calls.receive.Lts as lts
-use Rattle.boundary.proofs.ends.legestran_receive.Reads as legestran-receive-reads
+use Rattle.boundary.proofs.stations.legestran_receive.Reads as legestran-receive-reads
 use Rattle.calls.proofs.input.next_bytes.Reads as next-bytes-reads
 use Rattle.calls.proofs.input.next_words.Reads as next-words-reads
 use Rattle.calls.proofs.output.put_answer.Reads as put-answer-reads

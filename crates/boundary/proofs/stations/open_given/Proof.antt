@@ -1,10 +1,10 @@
-use Rattle.boundary.proofs.EndLaws.{given-short, given-refused, given-opened}
+use Rattle.boundary.proofs.StationLaws.{given-short, given-refused, given-opened}
 use borrow.Author.Needs.{needs}
-use Rattle.boundary.proofs.ends.open_given.Statement.{statement}
-use Rattle.boundary.proofs.ends.open_given.Tie as tie
-use Rattle.boundary.proofs.ends.open_given.Reads as reads
-use Rattle.boundary.proofs.ends.open_given.Lts as lts
-use Rattle.boundary.proofs.ends.refuse_opening.Reads as refuse-opening-reads
+use Rattle.boundary.proofs.stations.open_given.Statement.{statement}
+use Rattle.boundary.proofs.stations.open_given.Tie as tie
+use Rattle.boundary.proofs.stations.open_given.Reads as reads
+use Rattle.boundary.proofs.stations.open_given.Lts as lts
+use Rattle.boundary.proofs.stations.refuse_opening.Reads as refuse-opening-reads
 use Rattle.boundary.proofs.states.put_state.Reads as put-state-reads
 use Rattle.station.proofs.opening.open.Reads as open-reads
 

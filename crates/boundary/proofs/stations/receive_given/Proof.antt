@@ -1,9 +1,9 @@
-use Rattle.boundary.proofs.EndLaws.{receive-long, receive-refused, receive-taken}
+use Rattle.boundary.proofs.StationLaws.{receive-long, receive-refused, receive-taken}
 use borrow.Author.Needs.{needs}
-use Rattle.boundary.proofs.ends.receive_given.Statement.{statement}
-use Rattle.boundary.proofs.ends.receive_given.Tie as tie
-use Rattle.boundary.proofs.ends.receive_given.Reads as reads
-use Rattle.boundary.proofs.ends.receive_given.Lts as lts
+use Rattle.boundary.proofs.stations.receive_given.Statement.{statement}
+use Rattle.boundary.proofs.stations.receive_given.Tie as tie
+use Rattle.boundary.proofs.stations.receive_given.Reads as reads
+use Rattle.boundary.proofs.stations.receive_given.Lts as lts
 use Rattle.boundary.proofs.states.put_state.Reads as put-state-reads
 use Rattle.station.proofs.receiving.receive.Reads as receive-reads
 

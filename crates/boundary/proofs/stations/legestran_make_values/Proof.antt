@@ -1,10 +1,10 @@
-use Rattle.boundary.proofs.EndLaws.{values-refused, values-taken}
+use Rattle.boundary.proofs.StationLaws.{values-refused, values-taken}
 use borrow.Author.Needs.{needs}
 use native.Mathlib.Omega.{arith}
-use Rattle.boundary.proofs.ends.legestran_make_values.Statement.{statement}
-use Rattle.boundary.proofs.ends.legestran_make_values.Tie as tie
-use Rattle.boundary.proofs.ends.legestran_make_values.Reads as reads
-use Rattle.boundary.proofs.ends.legestran_make_values.Lts as lts
+use Rattle.boundary.proofs.stations.legestran_make_values.Statement.{statement}
+use Rattle.boundary.proofs.stations.legestran_make_values.Tie as tie
+use Rattle.boundary.proofs.stations.legestran_make_values.Reads as reads
+use Rattle.boundary.proofs.stations.legestran_make_values.Lts as lts
 use Rattle.boundary.proofs.answers.answer_of.Reads as answer-of-reads
 use Rattle.boundary.proofs.answers.of_made.Reads as of-made-reads
 use Rattle.boundary.proofs.given.read_end.Reads as read-end-reads

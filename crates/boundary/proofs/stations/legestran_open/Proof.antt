@@ -1,12 +1,12 @@
-use Rattle.boundary.proofs.EndLaws.{open-refused, open-taken}
+use Rattle.boundary.proofs.StationLaws.{open-refused, open-taken}
 use borrow.Author.Needs.{needs}
-use Rattle.boundary.proofs.ends.legestran_open.Statement.{statement}
-use Rattle.boundary.proofs.ends.legestran_open.Tie as tie
-use Rattle.boundary.proofs.ends.legestran_open.Reads as reads
-use Rattle.boundary.proofs.ends.legestran_open.Lts as lts
+use Rattle.boundary.proofs.stations.legestran_open.Statement.{statement}
+use Rattle.boundary.proofs.stations.legestran_open.Tie as tie
+use Rattle.boundary.proofs.stations.legestran_open.Reads as reads
+use Rattle.boundary.proofs.stations.legestran_open.Lts as lts
 use Rattle.boundary.proofs.answers.answer_of.Reads as answer-of-reads
 use Rattle.boundary.proofs.answers.of_verdict.Reads as of-verdict-reads
-use Rattle.boundary.proofs.ends.open_given.Reads as open-given-reads
+use Rattle.boundary.proofs.stations.open_given.Reads as open-given-reads
 use Rattle.boundary.proofs.given.read_papers.Reads as read-papers-reads
 
 -- src/ends.rt:90:9

@@ -39,7 +39,7 @@ use Rattle.answerer.specs.declared.answer.Answered.{Answered}
 use Rattle.boundary.specs.Answers.{answerWord, verdictWord, madeWord, answeredWord}
 use Rattle.boundary.specs.States.{unclear, endOf, stateAfter}
 use Rattle.boundary.specs.Given.{papersIn, endIn, shownEnd}
-use Rattle.boundary.specs.Ends.{openGiven, openFrom, openedState, makeValuesFrom, makeRowsFrom, receiveGiven, receiveFrom, receivedState, answerEndFrom}
+use Rattle.boundary.specs.Stations.{openGiven, openFrom, openedState, makeValuesFrom, makeRowsFrom, receiveGiven, receiveFrom, receivedState, answerEndFrom}
 use Rattle.boundary.specs.declared.given.EndRead.{EndRead}
 use Rattle.boundary.proofs.CallLaws.{next-refused, next-taken, verdict-said, made-said, answered-said, leaves-same, answered-same}
 use Rattle.boundary.proofs.GivenLaws.{end-taken, end-refused}

@@ -1,14 +1,14 @@
-use Rattle.boundary.proofs.EndLaws.{all-refused, all-taken}
+use Rattle.boundary.proofs.StationLaws.{all-refused, all-taken}
 use Rattle.boundary.proofs.GivenLaws.{end-long}
 use borrow.Author.Needs.{needs}
 use native.Mathlib.Omega.{arith}
-use Rattle.boundary.proofs.ends.legestran_receive.Statement.{statement}
-use Rattle.boundary.proofs.ends.legestran_receive.Tie as tie
-use Rattle.boundary.proofs.ends.legestran_receive.Reads as reads
-use Rattle.boundary.proofs.ends.legestran_receive.Lts as lts
+use Rattle.boundary.proofs.stations.legestran_receive.Statement.{statement}
+use Rattle.boundary.proofs.stations.legestran_receive.Tie as tie
+use Rattle.boundary.proofs.stations.legestran_receive.Reads as reads
+use Rattle.boundary.proofs.stations.legestran_receive.Lts as lts
 use Rattle.boundary.proofs.answers.answer_of.Reads as answer-of-reads
 use Rattle.boundary.proofs.answers.of_verdict.Reads as of-verdict-reads
-use Rattle.boundary.proofs.ends.receive_given.Reads as receive-given-reads
+use Rattle.boundary.proofs.stations.receive_given.Reads as receive-given-reads
 use Rattle.boundary.proofs.given.read_end.Reads as read-end-reads
 
 -- src/ends.rt:197:9

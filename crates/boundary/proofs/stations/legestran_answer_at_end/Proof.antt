@@ -1,9 +1,9 @@
-use Rattle.boundary.proofs.EndLaws.{answer-refused, answer-taken}
+use Rattle.boundary.proofs.StationLaws.{answer-refused, answer-taken}
 use borrow.Author.Needs.{needs}
-use Rattle.boundary.proofs.ends.legestran_answer_at_end.Statement.{statement}
-use Rattle.boundary.proofs.ends.legestran_answer_at_end.Tie as tie
-use Rattle.boundary.proofs.ends.legestran_answer_at_end.Reads as reads
-use Rattle.boundary.proofs.ends.legestran_answer_at_end.Lts as lts
+use Rattle.boundary.proofs.stations.legestran_answer_at_end.Statement.{statement}
+use Rattle.boundary.proofs.stations.legestran_answer_at_end.Tie as tie
+use Rattle.boundary.proofs.stations.legestran_answer_at_end.Reads as reads
+use Rattle.boundary.proofs.stations.legestran_answer_at_end.Lts as lts
 use Rattle.answerer.proofs.assembly.answer_at_end.Reads as answer-at-end-reads
 use Rattle.boundary.proofs.answers.answer_of.Reads as answer-of-reads
 use Rattle.boundary.proofs.answers.of_answered.Reads as of-answered-reads

@@ -1,10 +1,10 @@
-use Rattle.boundary.proofs.EndLaws.{rows-refused, rows-taken}
+use Rattle.boundary.proofs.StationLaws.{rows-refused, rows-taken}
 use borrow.Author.Needs.{needs}
 use native.Mathlib.Omega.{arith}
-use Rattle.boundary.proofs.ends.legestran_make_rows.Statement.{statement}
-use Rattle.boundary.proofs.ends.legestran_make_rows.Tie as tie
-use Rattle.boundary.proofs.ends.legestran_make_rows.Reads as reads
-use Rattle.boundary.proofs.ends.legestran_make_rows.Lts as lts
+use Rattle.boundary.proofs.stations.legestran_make_rows.Statement.{statement}
+use Rattle.boundary.proofs.stations.legestran_make_rows.Tie as tie
+use Rattle.boundary.proofs.stations.legestran_make_rows.Reads as reads
+use Rattle.boundary.proofs.stations.legestran_make_rows.Lts as lts
 use Rattle.boundary.proofs.answers.answer_of.Reads as answer-of-reads
 use Rattle.boundary.proofs.answers.of_made.Reads as of-made-reads
 use Rattle.boundary.proofs.given.read_end.Reads as read-end-reads

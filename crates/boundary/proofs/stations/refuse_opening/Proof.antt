@@ -1,9 +1,9 @@
-use Rattle.boundary.proofs.EndLaws.{refuse-same, refuse-short}
+use Rattle.boundary.proofs.StationLaws.{refuse-same, refuse-short}
 use borrow.Author.Needs.{needs}
-use Rattle.boundary.proofs.ends.refuse_opening.Statement.{statement}
-use Rattle.boundary.proofs.ends.refuse_opening.Tie as tie
-use Rattle.boundary.proofs.ends.refuse_opening.Reads as reads
-use Rattle.boundary.proofs.ends.refuse_opening.Lts as lts
+use Rattle.boundary.proofs.stations.refuse_opening.Statement.{statement}
+use Rattle.boundary.proofs.stations.refuse_opening.Tie as tie
+use Rattle.boundary.proofs.stations.refuse_opening.Reads as reads
+use Rattle.boundary.proofs.stations.refuse_opening.Lts as lts
 use Rattle.station.proofs.opening.open.Reads as open-reads
 
 -- src/ends.rt:39:79

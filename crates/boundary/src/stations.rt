@@ -14,7 +14,7 @@ ghost use Rattle.station.specs.Making.{shownMade, madeIn};
 ghost use Rattle.station.specs.Receiving.{receivedMarks, receivedStore};
 ghost use Rattle.answerer.specs.Answer.{answeredOf, answeredIn};
 ghost use Rattle.boundary.specs.Answers.{verdictWord, madeWord, answeredWord};
-ghost use Rattle.boundary.specs.Ends.{
+ghost use Rattle.boundary.specs.Stations.{
   openGiven,
   openFrom,
   openedState,
