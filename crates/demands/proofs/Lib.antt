@@ -1,5 +1,7 @@
 -- The demands hold.
 pub mod DemandOneLaws
+pub mod NumberLaws
+pub mod DemandTwoLaws
 pub mod CrewLaws
 pub mod TakenLaws
 pub mod RunLaws

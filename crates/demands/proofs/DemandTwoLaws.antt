@@ -1,0 +1,130 @@
+-- Demand 2 holds: each part by the law of the crate that has it.
+use mathlib.Core.Path.{_≡_, refl, ap, _∙_}
+use mathlib.Core.Bool.{true}
+use mathlib.Core.List.{List, List·Memᴰ}
+use mathlib.Core.Logic.{_↔_}
+use Prim.Native.Nat.{ℕ, _≤_}
+use lib.ListN.{length, getD}
+use Rattle.ground.specs.Lists.{Every}
+use Rattle.ground.specs.Outcome.{verdictOf}
+use Rattle.ground.specs.Outcome.Outcome.{good}
+use Rattle.ground.proofs.EveryLaws.{every-map}
+use Rattle.contents.specs.declared.envelope.Envelope.{Envelope}
+use Rattle.envelopes.specs.Envelope.{checkEnvelope}
+use Rattle.envelopes.specs.Rules.{Within}
+use Rattle.envelopes.specs.Fits.{Fits}
+use Rattle.envelopes.proofs.ExactEnvelope.{envelope-exact}
+use Rattle.paths.specs.Paths.{column}
+use Rattle.paths.specs.Steps.{legal, legalSteps}
+use Rattle.paths.specs.Meaning.{answerOn, answerRows, answerWords}
+use Rattle.paths.specs.declared.steps.Step.{Step}
+use Rattle.paths.proofs.PathLaws.{on-path}
+use Rattle.paths.proofs.StepLaws.{legal-step, step-legal, legal-member}
+use Rattle.papers.specs.Programs.{stepsOf, checkProgram, Acceptable}
+use Rattle.papers.specs.Fits.{ProgramFits}
+use Rattle.papers.specs.declared.programs.Program.{Program}
+use Rattle.papers.proofs.ExactPrograms.{read-exact}
+use Rattle.papers.proofs.ExactChecks.{check-exact}
+use Rattle.estimates.specs.Costs.{plainCosts}
+use Rattle.estimates.specs.Estimate.{estimated, estimateOf}
+use Rattle.estimates.proofs.EstimateLaws.{estimated-lines, estimated-total}
+use Rattle.planner.proofs.PromiseLaws.{plan-checked, plan-read}
+use Rattle.tables.specs.Offsets.{rowCount}
+use Rattle.tables.specs.Rows.{isKept}
+use Rattle.tables.specs.Shape.{shaped}
+use Rattle.tables.specs.Values.{valuesOf}
+use Rattle.semijoin.specs.Run.{stepped, runMarks, runOutcome}
+use Rattle.semijoin.specs.Promise.{keptAt}
+use Rattle.semijoin.proofs.PromiseLaws.{promise}
+use Rattle.semijoin.proofs.RunLaws.{step-exact, step-answer, run-answer, run-exact, Runs}
+use Rattle.answerer.specs.Answer.{answerOutcome}
+use Rattle.answerer.proofs.AnswerLaws.{answer-exact, Answers}
+use Rattle.demands.specs.DemandTwo.{OnPath, EstimateKept, DemandTwo}
+
+-- ---- legal steps
+
+legal-path : (e : Envelope) (s : Step) → legal e s ≡ true → OnPath e s
+legal-path e s t =
+    let l = legal-step e s t in
+    record { left = l .left; right = l .right; differ = l .differ; path = on-path e (column (s .left)) (column (s .right)) .0 (l .path) }
+
+path-legal : (e : Envelope) (s : Step) → OnPath e s → legal e s ≡ true
+path-legal e s l =
+    step-legal e s
+    (record { left = l .left; right = l .right; differ = l .differ; path = on-path e (column (s .left)) (column (s .right)) .1 (l .path) })
+
+-- ---- the estimate
+
+estimate-kept : (f : Envelope) (g : Program) → EstimateKept f g (estimated plainCosts f (stepsOf g) (g .site))
+unfolding estimated verdictOf
+estimate-kept f g =
+    record {
+      taken = refl;
+      lines = estimated-lines plainCosts f (stepsOf g) (g .site);
+      assembly = refl;
+      total = estimated-total plainCosts f (stepsOf g) (g .site);
+    }
+
+estimate-holds : (f : Envelope) (g : Program) (u v : ℕ) → EstimateKept f g (estimateOf (good f u) (good g v))
+unfolding estimateOf
+estimate-holds f g u v = estimate-kept f g
+
+-- ---- the run and the answer, where they are taken
+
+run-taken : (e : Envelope) → Fits e → (p : Program) → ProgramFits p → (words marks after : List ℕ) (u : ℕ)
+    → (runOutcome e p words marks ≡ good after u)
+    ↔ (Within e × Acceptable e p × (shaped e words ≡ true) × (rowCount e words ≤ length marks) × (after ≡ runMarks e p words marks) × (u ≡ 0))
+run-taken e fits p small words marks after u = (
+  λ h.
+      let (r, is, end) = run-exact e p words marks fits small after u .0 h in
+      (r .within, r .acceptable, r .shape, r .room, is, end),
+  λ (within, acceptable, shape, room, is, end).
+      run-exact e p words marks fits small after u .1
+      (record { within = within; acceptable = acceptable; shape = shape; room = room }, is, end),
+)
+
+answer-taken : (e : Envelope) → Fits e → (words out w : List ℕ) (u : ℕ)
+    → (answerOutcome e words out ≡ good w u)
+    ↔ (Within e × (shaped e words ≡ true) × (length (answerWords e words) ≤ length out) × (w ≡ answerWords e words) × (u ≡ 0))
+answer-taken e fits words out w u = (
+  λ h.
+      let (a, is, end) = answer-exact e words out fits w u .0 h in
+      (a .within, a .shape, a .room, is, end),
+  λ (within, shape, room, is, end).
+      answer-exact e words out fits w u .1 (record { within = within; shape = shape; room = room }, is, end),
+)
+
+step-stays : (e : Envelope) (words marks : List ℕ) (s : Step) (r i : ℕ) → (r ≡ s .left .relation → ⊥)
+    → keptAt e words (stepped e words s marks) r i ≡ keptAt e words marks r i
+unfolding stepped
+step-stays e words marks s r i differ =
+    ap (λ (l : List ℕ). isKept (getD l i 0)) (promise e .others-stay words (valuesOf e words marks (s .right)) marks (s .left) r differ)
+
+-- ---- all of it
+
+pub demand-two : DemandTwo
+unfolding runMarks answerRows answerOn
+demand-two =
+    record {
+      legal-exact = λ e s. (legal-path e s, path-legal e s);
+      legal-listed = λ e s. (
+        λ m. legal-path e s (legal-member e s .1 m),
+        λ l. legal-member e s .0 (path-legal e s l),
+      );
+      envelope-bytes = λ s b e q. envelope-exact s e q b;
+      program-bytes = λ e fits s b p q. read-exact e fits s p q b;
+      program-struct = λ e fits p small r q. check-exact e fits p r q small;
+      program-legal = λ e p h. every-map (λ (s : Step). legal e s ≡ true) (OnPath e) (stepsOf p) (legal-path e) (h .steps);
+      estimate = λ e f p g u v h k. rw (h, k) (estimate-holds f g u v);
+      plan-struct = plan-checked;
+      plan-bytes = plan-read;
+      run = run-taken;
+      run-folds = λ e p words marks. refl;
+      local = λ e words marks fits r i h. promise e .opens words marks (λ _. true) fits r i h;
+      step = λ e words marks s i. step-exact e words s marks i;
+      step-others = step-stays;
+      step-answer = λ e words marks s l. step-answer e words s marks (path-legal e s l);
+      run-answer = λ e p words marks h fits. run-answer e words p marks (h .steps) fits;
+      answer-rows = λ e words. refl;
+      answer = answer-taken;
+    }
