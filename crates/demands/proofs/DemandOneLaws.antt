@@ -17,14 +17,15 @@ use Rattle.fields.specs.Refusals.{beyondLimit, wrongShape, tooShort, waiting, n
 use Rattle.contents.specs.Parts.{relationCount}
 use Rattle.contents.specs.Kept.{keptColumns}
 use Rattle.contents.specs.declared.envelope.Envelope.{Envelope}
-use Rattle.envelopes.specs.Envelope.{checkEnvelope}
+use Rattle.envelopes.specs.Envelope.{checkEnvelope, envelopeBytes}
 use Rattle.paths.specs.Meaning.{answerWords}
+use Rattle.papers.specs.Programs.{checkProgram, programBytes}
 use Rattle.papers.specs.Checks.{papersOf}
 use Rattle.papers.specs.declared.programs.Program.{Program}
 use Rattle.papers.specs.declared.checks.Papers.{Papers}
 use Rattle.tables.specs.Shape.{shaped}
 use Rattle.semijoin.specs.Marks.{marksAfter}
-use Rattle.semijoin.proofs.CallLaws.{run-number}
+use Rattle.semijoin.proofs.CallLaws.{open-number as local-number, reduce-number, run-number}
 use Rattle.ends.specs.Ends.{overApplied, soundEnd}
 use Rattle.ends.specs.Messages.{runOf, secondOf, aboutOf, counted}
 use Rattle.ends.specs.declared.messages.About.{About}
@@ -40,12 +41,16 @@ use Rattle.answerer.specs.Sources.{noLay}
 use Rattle.answerer.specs.Assembly.{firstAwaited, answerFrom, assembled, assembledWith, assembledOutcome}
 use Rattle.answerer.specs.declared.sources.Lay.{Lay}
 use Rattle.answerer.specs.declared.sources.Source.{Source}
-use Rattle.demands.specs.DemandOne.{PapersOr, DemandOne}
+use Rattle.demands.proofs.PaperLaws.{read-number, check-number, program-read-number, program-check-number, papers-number, write-refused, plan-refused, estimate-refused}
+use Rattle.demands.specs.DemandOne.{papersNumbers, PapersOr, EnvelopeOr, DemandOne}
 
 -- ---- the first refusals of a call on an end, then its own
 
+abbrev PapersTold : Envelope → Program → List ℕ → ℕ → ℕ → Type 0
+PapersTold e p numbers n u = (papersOf e p ≡ bad n u) ⊎ List·Memᴰ n numbers
+
 papers-or : (e : Envelope) (p : Program) (first rest : List ℕ) (n u : ℕ)
-    → ((papersOf e p ≡ bad n u) ⊎ (List·Memᴰ n first × (u ≡ 0))) ⊎ List·Memᴰ n rest → PapersOr e p (first ++ rest) n u
+    → ((papersOf e p ≡ bad n u) ⊎ (List·Memᴰ n first × (u ≡ 0))) ⊎ List·Memᴰ n rest → PapersTold e p (first ++ rest) n u
 papers-or e p first rest n u (inl (inl k)) = inl k
 papers-or e p first rest n u (inl (inr (m, _))) = inr (Memᴰ·append-left rest m)
 papers-or e p first rest n u (inr m) = inr (Memᴰ·append-right first m)
@@ -194,17 +199,17 @@ sound-number x n u h = go (next-bad (papersOf (x .envelope) (x .program)) _ n u 
         (λ n u z. absurd (good-bad q p n u z)) n u k)
 
 end-number : (x : End) (store out : List ℕ) (n u : ℕ) → assembledOutcome x store out ≡ bad n u
-    → PapersOr (x .envelope) (x .program) (beyondLimit ∷ notOurs ∷ notSound ∷ waiting ∷ tooShort ∷ []) n u
+    → PapersTold (x .envelope) (x .program) (beyondLimit ∷ notOurs ∷ notSound ∷ waiting ∷ tooShort ∷ []) n u
 unfolding assembledOutcome
 end-number x store out n u h = go (next-bad (soundEnd x) _ n u h)
   where
     first : (papersOf (x .envelope) (x .program) ≡ bad n u) ⊎ (n ≡ beyondLimit)
-        → PapersOr (x .envelope) (x .program) (beyondLimit ∷ notOurs ∷ notSound ∷ waiting ∷ tooShort ∷ []) n u
+        → PapersTold (x .envelope) (x .program) (beyondLimit ∷ notOurs ∷ notSound ∷ waiting ∷ tooShort ∷ []) n u
     first (inl k) = inl k
     first (inr k) = inr (List·Memᴰ·head k)
 
     go : (soundEnd x ≡ bad n u) ⊎ ((q : Papers) × (p : ℕ) × (soundEnd x ≡ good q p) × (assembledWith q x store out ≡ bad n u))
-        → PapersOr (x .envelope) (x .program) (beyondLimit ∷ notOurs ∷ notSound ∷ waiting ∷ tooShort ∷ []) n u
+        → PapersTold (x .envelope) (x .program) (beyondLimit ∷ notOurs ∷ notSound ∷ waiting ∷ tooShort ∷ []) n u
     go (inl z) = first (sound-number x n u z)
     go (inr (q, p, _, z)) = inr (List·Memᴰ·tail (with-number q x store out n u z))
 
@@ -214,28 +219,71 @@ marks-stay : (marks : List ℕ) (o : Outcome (List ℕ)) (n u : ℕ) → o ≡ b
 unfolding marksAfter
 marks-stay marks o n u h = rw h
 
+-- with the numbers that papers are refused by
+bounded : (e : Envelope) (p : Program) (numbers : List ℕ) (n u : ℕ) → PapersTold e p numbers n u → PapersOr e p numbers n u
+bounded e p numbers n u (inl k) = inl (k, papers-number e p n u k)
+bounded e p numbers n u (inr m) = inr m
+
+bounded-envelope : (e : Envelope) (numbers : List ℕ) (n u : ℕ) → (checkEnvelope e ≡ bad n u) ⊎ List·Memᴰ n numbers → EnvelopeOr e numbers n u
+bounded-envelope e numbers n u (inl k) = inl (k, check-number e n u k)
+bounded-envelope e numbers n u (inr m) = inr m
+
+envelope-write : (e : Envelope) (n u : ℕ) → (checkEnvelope e ≡ bad n u) ⊎ (n ≡ tooShort) → EnvelopeOr e (tooShort ∷ []) n u
+envelope-write e n u (inl k) = inl (k, check-number e n u k)
+envelope-write e n u (inr k) = inr (List·Memᴰ·head k)
+
+program-write : (e : Envelope) (p : Program) (n u : ℕ) → (checkProgram e p ≡ bad n u) ⊎ (n ≡ tooShort) → List·Memᴰ n (tooShort ∷ papersNumbers)
+program-write e p n u (inl k) = List·Memᴰ·tail (program-check-number e p n u k)
+program-write e p n u (inr k) = List·Memᴰ·head k
+
+estimate-number : (e : Envelope) (p : Program) (n u : ℕ) → (checkEnvelope e ≡ bad n u) ⊎ (checkProgram e p ≡ bad n u) → List·Memᴰ n papersNumbers
+estimate-number e p n u (inl k) = List·Memᴰ·tail (check-number e n u k)
+estimate-number e p n u (inr k) = program-check-number e p n u k
+
+end-or : (x : End) (first rest : List ℕ) (n u : ℕ)
+    → ((papersOf (x .envelope) (x .program) ≡ bad n u) ⊎ (List·Memᴰ n first × (u ≡ 0))) ⊎ List·Memᴰ n rest
+    → PapersOr (x .envelope) (x .program) (first ++ rest) n u
+end-or x first rest n u h = bounded (x .envelope) (x .program) (first ++ rest) n u (papers-or (x .envelope) (x .program) first rest n u h)
+
 pub demand-one : DemandOne
 demand-one =
     record {
+      envelope-read = read-number;
+      program-read = program-read-number;
+      envelope-written = λ e out n u h.
+          let (k, stays) = write-refused (checkEnvelope e) (envelopeBytes e) out n u h in (envelope-write e n u k, stays);
+      program-written = λ e p out n u h.
+          let (k, stays) = write-refused (checkProgram e p) (programBytes p) out n u h in (program-write e p n u k, stays);
+      planning = λ e n u h. check-number e n u (plan-refused (checkEnvelope e) n u h);
+      planning-bytes = λ s n u h. read-number s n u (plan-refused _ n u h);
+      estimating = λ e p n u h. estimate-number e p n u (estimate-refused (checkEnvelope e) (checkProgram e p) n u h);
+      opening-marks = λ e words here marks n u h. (
+        bounded-envelope e _ n u (only-number (local-number e words here marks n u h)),
+        marks-stay marks _ n u h,
+      );
+      reducing = λ e words values a marks n u h. (reduce-number e a words values marks n u h .0, marks-stay marks _ n u h);
       opening = λ e p site run words marks n u h. (
-        only-number (open-number site run words marks e p n u h),
+        bounded e p _ n u (only-number (open-number site run words marks e p n u h)),
         open-untouched site run words marks e p n u h,
       );
-      in-one-place = λ e p words marks n u h. (only-number (run-number e p words marks n u h), marks-stay marks _ n u h);
+      in-one-place = λ e p words marks n u h. (bounded e p _ n u (only-number (run-number e p words marks n u h)), marks-stay marks _ n u h);
       making-values = λ x words marks step out n u h. (
-        papers-or (x .envelope) (x .program) firstNumbers (notOurs ∷ waiting ∷ tooShort ∷ []) n u (values-number x words marks step (length out) n u h),
+        end-or x firstNumbers (notOurs ∷ waiting ∷ tooShort ∷ []) n u (values-number x words marks step (length out) n u h),
         made-untouched out _ n u h,
       );
       making-rows = λ x words marks r out n u h. (
-        papers-or (x .envelope) (x .program) firstNumbers (notOurs ∷ waiting ∷ tooShort ∷ []) n u (rows-number x words marks r (length out) n u h),
+        end-or x firstNumbers (notOurs ∷ waiting ∷ tooShort ∷ []) n u (rows-number x words marks r (length out) n u h),
         made-untouched out _ n u h,
       );
       receiving = λ x words marks store m n u h. (
-        papers-or (x .envelope) (x .program) firstNumbers lastNumbers n u (only-number (received-number x words marks store m n u h)),
+        end-or x firstNumbers lastNumbers n u (only-number (received-number x words marks store m n u h)),
         received-end x words marks store m n u h,
         received-marks x words marks store m n u h,
         received-store x words marks store m n u h,
       );
-      answering-tables = λ e words out n u h. (tables-number e words out n u h, answered-stays out _ n u h);
-      answering-end = λ x store out n u h. (end-number x store out n u h, answered-stays out _ n u h);
+      answering-tables = λ e words out n u h. (bounded-envelope e _ n u (tables-number e words out n u h), answered-stays out _ n u h);
+      answering-end = λ x store out n u h. (
+        bounded (x .envelope) (x .program) _ n u (end-number x store out n u h),
+        answered-stays out _ n u h,
+      );
     }

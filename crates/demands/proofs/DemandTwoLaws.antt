@@ -1,26 +1,24 @@
 -- Demand 2 holds: each part by the law of the crate that has it.
-use mathlib.Core.Path.{_≡_, refl, ap, _∙_}
+use mathlib.Core.Path.{_≡_, refl, ap}
 use mathlib.Core.Bool.{true}
-use mathlib.Core.List.{List, List·Memᴰ}
+use mathlib.Core.List.{List}
 use mathlib.Core.Logic.{_↔_}
 use Prim.Native.Nat.{ℕ, _≤_}
 use lib.ListN.{length, getD}
-use Rattle.ground.specs.Lists.{Every}
 use Rattle.ground.specs.Outcome.{verdictOf}
 use Rattle.ground.specs.Outcome.Outcome.{good}
 use Rattle.ground.proofs.EveryLaws.{every-map}
 use Rattle.contents.specs.declared.envelope.Envelope.{Envelope}
-use Rattle.envelopes.specs.Envelope.{checkEnvelope}
 use Rattle.envelopes.specs.Rules.{Within}
 use Rattle.envelopes.specs.Fits.{Fits}
 use Rattle.envelopes.proofs.ExactEnvelope.{envelope-exact}
 use Rattle.paths.specs.Paths.{column}
-use Rattle.paths.specs.Steps.{legal, legalSteps}
+use Rattle.paths.specs.Steps.{legal}
 use Rattle.paths.specs.Meaning.{answerOn, answerRows, answerWords}
 use Rattle.paths.specs.declared.steps.Step.{Step}
 use Rattle.paths.proofs.PathLaws.{on-path}
 use Rattle.paths.proofs.StepLaws.{legal-step, step-legal, legal-member}
-use Rattle.papers.specs.Programs.{stepsOf, checkProgram, Acceptable}
+use Rattle.papers.specs.Programs.{stepsOf, Acceptable}
 use Rattle.papers.specs.Fits.{ProgramFits}
 use Rattle.papers.specs.declared.programs.Program.{Program}
 use Rattle.papers.proofs.ExactPrograms.{read-exact}
@@ -36,9 +34,9 @@ use Rattle.tables.specs.Values.{valuesOf}
 use Rattle.semijoin.specs.Run.{stepped, runMarks, runOutcome}
 use Rattle.semijoin.specs.Promise.{keptAt}
 use Rattle.semijoin.proofs.PromiseLaws.{promise}
-use Rattle.semijoin.proofs.RunLaws.{step-exact, step-answer, run-answer, run-exact, Runs}
+use Rattle.semijoin.proofs.RunLaws.{step-exact, step-answer, run-answer, run-exact}
 use Rattle.answerer.specs.Answer.{answerOutcome}
-use Rattle.answerer.proofs.AnswerLaws.{answer-exact, Answers}
+use Rattle.answerer.proofs.AnswerLaws.{answer-exact}
 use Rattle.demands.specs.DemandTwo.{OnPath, EstimateKept, DemandTwo}
 
 -- ---- legal steps

@@ -1,6 +1,7 @@
 -- The demands hold.
-pub mod DemandOneLaws
 pub mod NumberLaws
+pub mod PaperLaws
+pub mod DemandOneLaws
 pub mod DemandTwoLaws
 pub mod CrewLaws
 pub mod TakenLaws

@@ -1,19 +1,28 @@
 -- "Every envelope, program, table and radio message, damaged or hostile, is either taken or refused with a number from our list,
--- and every call ends. A refusal leaves the row marks, the store and every output as they were before the call." For each call
--- on ends, marks and stores: the numbers that it can refuse by, and what a refusal leaves. That every call ends is the language's own
+-- and every call ends. A refusal leaves the row marks, the store and every output as they were before the call." For each call:
+-- the numbers that it can refuse by, and what a refusal leaves. That every call ends is the language's own
 -- guarantee, and that a call is taken or refused is what an outcome is.
 use Prim.Native.Nat.{ℕ}
 use mathlib.Core.Path.{_≡_}
+use mathlib.Core.Bool.{Bool}
 use mathlib.Core.List.{List, [], _∷_, List·Memᴰ}
 use mathlib.Core.Logic.{_⊎_}
 use lib.ListN.{length}
 use Rattle.ground.specs.Outcome.Outcome.{bad}
-use Rattle.fields.specs.Refusals.{endsInside, beyondLimit, wrongShape, tooShort, waiting, otherRun, notOurs, notSound, alreadyTaken, stepMissing}
+use Rattle.ground.specs.declared.Verdict.the-variants.{Refused}
+use Rattle.fields.specs.Refusals.{endsInside, wrongMark, wrongVersion, beyondLimit, twoDomains, sameColumn, leftOver, notLegal, noKeptColumn}
+use Rattle.fields.specs.Refusals.{wrongShape, tooShort, waiting, otherRun, notOurs, notSound, alreadyTaken, stepMissing}
+use Rattle.fields.specs.declared.puts.Written.the-variants as Written
+use Rattle.entries.specs.declared.places.Place.{Place}
 use Rattle.contents.specs.declared.envelope.Envelope.{Envelope}
-use Rattle.envelopes.specs.Envelope.{checkEnvelope}
+use Rattle.envelopes.specs.Envelope.{readEnvelope, checkEnvelope, envelopeWritten, envelopeWrittenIn}
+use Rattle.papers.specs.Programs.{readProgram, checkProgram, programWritten, programWrittenIn}
 use Rattle.papers.specs.Checks.{papersOf}
 use Rattle.papers.specs.declared.programs.Program.{Program}
-use Rattle.semijoin.specs.Marks.{marksAfter}
+use Rattle.estimates.specs.Estimate.{estimateOf}
+use Rattle.planner.specs.Plan.{planOf}
+use Rattle.semijoin.specs.Local.{openOutcome}
+use Rattle.semijoin.specs.Marks.{reduceOutcome, marksAfter}
 use Rattle.semijoin.specs.Run.{runOutcome}
 use Rattle.station.specs.Opening.{openOf, openedMarks}
 use Rattle.station.specs.Making.{makeValuesOf, makeRowsOf, madeIn}
@@ -22,11 +31,38 @@ use Rattle.ends.specs.declared.ends.End.{End}
 use Rattle.answerer.specs.Answer.{answerOutcome, answeredIn}
 use Rattle.answerer.specs.Assembly.{assembledOutcome}
 
+-- 1 to 7 and 9; and with a program 8
+abbrev pub envelopeNumbers : List ℕ
+envelopeNumbers = endsInside ∷ wrongMark ∷ wrongVersion ∷ beyondLimit ∷ twoDomains ∷ sameColumn ∷ leftOver ∷ noKeptColumn ∷ []
+
+abbrev pub papersNumbers : List ℕ
+papersNumbers = notLegal ∷ envelopeNumbers
+
 -- a refusal is that of the papers, as their bytes would be refused, or by one of these numbers
 abbrev pub PapersOr : Envelope → Program → List ℕ → ℕ → ℕ → Type 0
-PapersOr e p numbers n u = (papersOf e p ≡ bad n u) ⊎ List·Memᴰ n numbers
+PapersOr e p numbers n u = ((papersOf e p ≡ bad n u) × List·Memᴰ n papersNumbers) ⊎ List·Memᴰ n numbers
+
+abbrev pub EnvelopeOr : Envelope → List ℕ → ℕ → ℕ → Type 0
+EnvelopeOr e numbers n u = ((checkEnvelope e ≡ bad n u) × List·Memᴰ n envelopeNumbers) ⊎ List·Memᴰ n numbers
 
 pub record DemandOne : Type 0 where
+  -- papers as bytes and as structs; writing them: then 11, and the buffer stays
+  pub envelope-read : (s : List ℕ) (n u : ℕ) → readEnvelope s ≡ bad n u → List·Memᴰ n envelopeNumbers
+  pub program-read : (e : Envelope) (s : List ℕ) (n u : ℕ) → readProgram e s ≡ bad n u → List·Memᴰ n papersNumbers
+  pub envelope-written : (e : Envelope) (out : List ℕ) (n u : ℕ) → envelopeWritten e out ≡ Written.Refused n u
+      → EnvelopeOr e (tooShort ∷ []) n u × (envelopeWrittenIn e out ≡ out)
+  pub program-written : (e : Envelope) (p : Program) (out : List ℕ) (n u : ℕ) → programWritten e p out ≡ Written.Refused n u
+      → List·Memᴰ n (tooShort ∷ papersNumbers) × (programWrittenIn e p out ≡ out)
+  -- planning and estimating: the papers' numbers alone
+  pub planning : (e : Envelope) (n u : ℕ) → planOf (checkEnvelope e) .verdict ≡ Refused n u → List·Memᴰ n envelopeNumbers
+  pub planning-bytes : (s : List ℕ) (n u : ℕ) → planOf (readEnvelope s) .verdict ≡ Refused n u → List·Memᴰ n envelopeNumbers
+  pub estimating : (e : Envelope) (p : Program) (n u : ℕ) → estimateOf (checkEnvelope e) (checkProgram e p) .verdict ≡ Refused n u
+      → List·Memᴰ n papersNumbers
+  -- marks: local operations, "10, 11"; one step by some values, as receiving has them
+  pub opening-marks : (e : Envelope) (words : List ℕ) (here : ℕ → Bool) (marks : List ℕ) (n u : ℕ) → openOutcome e words here marks ≡ bad n u
+      → EnvelopeOr e (wrongShape ∷ tooShort ∷ []) n u × (marksAfter marks (openOutcome e words here marks) ≡ marks)
+  pub reducing : (e : Envelope) (words values : List ℕ) (a : Place) (marks : List ℕ) (n u : ℕ) → reduceOutcome e words values a marks ≡ bad n u
+      → List·Memᴰ n (wrongShape ∷ tooShort ∷ notOurs ∷ notSound ∷ []) × (marksAfter marks (reduceOutcome e words values a marks) ≡ marks)
   -- "Opening: 10, 4 (site above 7), 11."
   pub opening : (e : Envelope) (p : Program) (site run : ℕ) (words marks : List ℕ) (n u : ℕ) → openOf e p site run words marks ≡ bad n u
       → PapersOr e p (wrongShape ∷ beyondLimit ∷ tooShort ∷ []) n u × (openedMarks marks (openOf e p site run words marks) ≡ marks)
@@ -48,7 +84,7 @@ pub record DemandOne : Type 0 where
       × (receivedMarks marks (receiveOf x words marks store m) ≡ marks) × (receivedStore store (receiveOf x words marks store m) ≡ store)
   -- "Answering on tables: 10, 11."
   pub answering-tables : (e : Envelope) (words out : List ℕ) (n u : ℕ) → answerOutcome e words out ≡ bad n u
-      → ((checkEnvelope e ≡ bad n u) ⊎ List·Memᴰ n (wrongShape ∷ tooShort ∷ [])) × (answeredIn out (answerOutcome e words out) ≡ out)
+      → EnvelopeOr e (wrongShape ∷ tooShort ∷ []) n u × (answeredIn out (answerOutcome e words out) ≡ out)
   -- 4, then "Answering at an end: 14 .., 15 .., 12, 11"
   pub answering-end : (x : End) (store out : List ℕ) (n u : ℕ) → assembledOutcome x store out ≡ bad n u
       → PapersOr (x .envelope) (x .program) (beyondLimit ∷ notOurs ∷ notSound ∷ waiting ∷ tooShort ∷ []) n u

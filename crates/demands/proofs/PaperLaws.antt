@@ -1,0 +1,108 @@
+-- Papers are refused by 1 to 9 alone, an envelope never by 8; and so are what is planned or estimated of them. Writing them
+-- is refused by those or 11, and then leaves the buffer.
+use mathlib.Core.Path.{_≡_, refl}
+use mathlib.Core.Bool.{Bool, true, false}
+use mathlib.Core.List.{List, List·Memᴰ, List·Memᴰ·head, List·Memᴰ·tail}
+use mathlib.Core.Logic.{_⊎_, inl, inr}
+use Prim.Native.Nat.{ℕ}
+use lib.ListN.{length}
+use lib.Seq.{sets}
+use lib.Dec.{leb}
+use Rattle.ground.specs.Tests.{pick}
+use Rattle.ground.specs.Outcome.{Outcome, next, verdictOf}
+use Rattle.ground.specs.Outcome.Outcome.{good, bad}
+use Rattle.ground.specs.declared.Verdict.the-variants.{Refused}
+use Rattle.ground.proofs.OutcomeLaws.{never, good-bad, next-bad}
+use Rattle.fields.specs.Refusals.{tooShort}
+use Rattle.fields.specs.Puts.{frontOf, frontIn, writtenOf, writtenIn}
+use Rattle.fields.specs.declared.puts.Written.{Written}
+use Rattle.fields.specs.declared.puts.Written.the-variants as Written
+use Rattle.contents.specs.declared.envelope.Envelope.{Envelope}
+use Rattle.envelopes.specs.Envelope.{readEnvelope, checkEnvelope, envelopeBytes}
+use Rattle.paths.specs.Steps.{legal}
+use Rattle.papers.specs.Programs.{programAgainst, readProgram, checkProgram, programBytes}
+use Rattle.papers.specs.Checks.{papersOf}
+use Rattle.papers.specs.declared.programs.Program.{Program}
+use Rattle.papers.specs.declared.checks.Papers.{Papers}
+use Rattle.estimates.specs.Estimate.{estimated, noEstimate, estimateOf}
+use Rattle.planner.specs.Plan.{planFor, noPlan, planOf}
+use Rattle.demands.specs.DemandOne.{envelopeNumbers, papersNumbers}
+use Rattle.demands.proofs.NumberLaws.{envelope-number, program-number}
+
+-- ---- reading and checking
+
+pub read-number : (s : List ℕ) (n u : ℕ) → readEnvelope s ≡ bad n u → List·Memᴰ n envelopeNumbers
+read-number s =
+    envelope-number (λ n. List·Memᴰ n envelopeNumbers) (search List·Memᴰ·head) (search (List·Memᴰ·head, List·Memᴰ·tail) depth 12)
+    (search (List·Memᴰ·head, List·Memᴰ·tail) depth 12) (search (List·Memᴰ·head, List·Memᴰ·tail) depth 12)
+    (search (List·Memᴰ·head, List·Memᴰ·tail) depth 12) (search (List·Memᴰ·head, List·Memᴰ·tail) depth 12) s
+    (search (List·Memᴰ·head, List·Memᴰ·tail) depth 12) (search (List·Memᴰ·head, List·Memᴰ·tail) depth 12)
+
+pub check-number : (e : Envelope) (n u : ℕ) → checkEnvelope e ≡ bad n u → List·Memᴰ n envelopeNumbers
+unfolding checkEnvelope
+check-number e = read-number (envelopeBytes e)
+
+against-number : (e : Envelope) (s : List ℕ) (n u : ℕ) → programAgainst e s ≡ bad n u → List·Memᴰ n papersNumbers
+against-number e s =
+    program-number (λ n. List·Memᴰ n papersNumbers) (search (List·Memᴰ·head, List·Memᴰ·tail) depth 12)
+    (search (List·Memᴰ·head, List·Memᴰ·tail) depth 12) (search (List·Memᴰ·head, List·Memᴰ·tail) depth 12)
+    (search (List·Memᴰ·head, List·Memᴰ·tail) depth 12) (search (List·Memᴰ·head, List·Memᴰ·tail) depth 12)
+    (search List·Memᴰ·head) (legal e) e s
+
+pub program-read-number : (e : Envelope) (s : List ℕ) (n u : ℕ) → readProgram e s ≡ bad n u → List·Memᴰ n papersNumbers
+unfolding readProgram
+program-read-number e s n u h = go (next-bad (checkEnvelope e) (λ f _. programAgainst f s) n u h)
+  where
+    go : (checkEnvelope e ≡ bad n u) ⊎ ((f : Envelope) × (p : ℕ) × (checkEnvelope e ≡ good f p) × (programAgainst f s ≡ bad n u))
+        → List·Memᴰ n papersNumbers
+    go (inl z) = List·Memᴰ·tail (check-number e n u z)
+    go (inr (f, _, _, z)) = against-number f s n u z
+
+pub program-check-number : (e : Envelope) (p : Program) (n u : ℕ) → checkProgram e p ≡ bad n u → List·Memᴰ n papersNumbers
+unfolding checkProgram
+program-check-number e p = program-read-number e (programBytes p)
+
+pub papers-number : (e : Envelope) (p : Program) (n u : ℕ) → papersOf e p ≡ bad n u → List·Memᴰ n papersNumbers
+unfolding papersOf
+papers-number e p n u h = go (next-bad (checkEnvelope e) _ n u h)
+  where
+    made : Envelope → Program → ℕ → Outcome Papers
+    made f q at = good (record { envelope = f; program = q }) at
+
+    rest : (f : Envelope) → (programAgainst f (programBytes p) ≡ bad n u)
+        ⊎ ((q : Program) × (v : ℕ) × (programAgainst f (programBytes p) ≡ good q v) × (made f q v ≡ bad n u)) → List·Memᴰ n papersNumbers
+    rest f (inl z) = against-number f (programBytes p) n u z
+    rest f (inr (q, v, _, z)) = absurd (good-bad (record { envelope = f; program = q }) v n u z)
+
+    go : (checkEnvelope e ≡ bad n u)
+        ⊎ ((f : Envelope) × (v : ℕ) × (checkEnvelope e ≡ good f v) × (next (programAgainst f (programBytes p)) (made f) ≡ bad n u))
+        → List·Memᴰ n papersNumbers
+    go (inl z) = List·Memᴰ·tail (check-number e n u z)
+    go (inr (f, _, _, z)) = rest f (next-bad (programAgainst f (programBytes p)) (made f) n u z)
+
+-- ---- writing
+
+pub write-refused : {A : Type 0} (o : Outcome A) (bytes out : List ℕ) (n u : ℕ) → writtenOf o bytes out ≡ Written.Refused n u
+    → ((o ≡ bad n u) ⊎ (n ≡ tooShort)) × (writtenIn o bytes out ≡ out)
+unfolding writtenOf writtenIn frontOf frontIn
+write-refused (bad m p) bytes out n u h = (inl cc, refl)
+write-refused (good v p) bytes out n u h = go (leb (length bytes) (length out)) h
+  where
+    go : (t : Bool) → _≡_ {A = Written} (pick t (Written.Length (length bytes)) (Written.Refused tooShort 0)) (Written.Refused n u)
+        → ((good v p ≡ bad n u) ⊎ (n ≡ tooShort)) × (pick t (sets out 0 bytes) out ≡ out)
+    go true k = let z : _≡_ {A = ℕ} 0 1 = cc in absurd (never z)
+    go false k = (inr cc, refl)
+
+-- ---- planning and estimating
+
+pub plan-refused : (o : Outcome Envelope) (n u : ℕ) → planOf o .verdict ≡ Refused n u → o ≡ bad n u
+unfolding planOf planFor noPlan estimated verdictOf
+plan-refused (good e p) n u h = let z : _≡_ {A = ℕ} 0 1 = cc in absurd (never z)
+plan-refused (bad m p) n u h = cc
+
+pub estimate-refused : (o : Outcome Envelope) (q : Outcome Program) (n u : ℕ) → estimateOf o q .verdict ≡ Refused n u
+    → (o ≡ bad n u) ⊎ (q ≡ bad n u)
+unfolding estimateOf estimated noEstimate verdictOf
+estimate-refused (bad m p) q n u h = inl cc
+estimate-refused (good e p) (bad m q) n u h = inr cc
+estimate-refused (good e p) (good g q) n u h = let z : _≡_ {A = ℕ} 0 1 = cc in absurd (never z)
