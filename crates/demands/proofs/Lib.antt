@@ -18,4 +18,7 @@ pub mod OrderLaws
 pub mod AssembledLaws
 pub mod RoomLaws
 pub mod DemandThreeLaws
+pub mod Unique
+pub mod UniquePapers
+pub mod UniqueStations
 pub mod Figures
