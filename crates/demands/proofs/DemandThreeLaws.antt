@@ -30,7 +30,7 @@ use Rattle.demands.proofs.LowerLaws.{lower-start, lower-next}
 use Rattle.demands.proofs.UpperLaws.{upper-start, upper-next}
 use Rattle.demands.proofs.ReadyLaws.{assembly-few}
 use Rattle.demands.proofs.AssembledLaws.{waits, answers}
-use Rattle.demands.proofs.RoomLaws.{Roomy, room-start, room-next, arrived-stays, row-arrives}
+use Rattle.demands.proofs.RoomLaws.{Roomy, room-start, room-next, arrived-stays, row-arrives, row-suffices}
 
 -- an envelope and the same as it reads back give the same answer
 same-answer : (c : Crew) → Allowed c → answerWords (c .papers .envelope) (c .whole) ≡ answerWords (c .envelope) (c .whole)
@@ -89,6 +89,7 @@ module _ (c : Crew) (w : Allowed c) where
                   held-map (c .papers .envelope) (λ r m k. (a .upper .made m (k .0), k .1)) (answering c s .end .arrived)
                   (take (answering c s .end .used) (answering c s .store)) (a .sound (c .papers .program .site) (assembly-few c w) .stored);
               arrives = λ r h m behind there second wide. row-arrives c w s (a .sound) (a .lower) (a .roomy) r h m behind there second wide;
+              suffices = λ r h new m there second. row-suffices c w s (a .sound) (a .lower) (a .roomy) r h new m there second;
               stays = λ x possible r t. arrived-stays c w s x (a .sound) possible (c .papers .program .site) (assembly-few c w) r t;
             };
         in-one-place = run-whole c;

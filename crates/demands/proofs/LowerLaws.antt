@@ -21,13 +21,13 @@ use Rattle.tables.specs.Values.{risingValues}
 use Rattle.semijoin.specs.Promise.{rowOf, keptAt, Needed, Covers, Holds}
 use Rattle.semijoin.proofs.PromiseLaws.{promise}
 use Rattle.ends.specs.Reducing.{stepCount, stepOf}
-use Rattle.ends.specs.Messages.{runOf, secondOf, bodyOf, aboutOf}
+use Rattle.ends.specs.Messages.{secondOf, bodyOf, aboutOf}
 use Rattle.station.specs.Making.{sentRows, makeValuesOf, makeRowsOf}
 use Rattle.station.specs.Receiving.{Held, receiveOf}
 use Rattle.ends.specs.declared.messages.About.the-variants as about
 use Rattle.ends.proofs.EndLaws.{here-below}
 use Rattle.ends.proofs.MessageLaws.{step-below}
-use Rattle.demands.specs.Link.{Crew, Allowed, State, start, Event, Possible, withTaken, lentStore, after}
+use Rattle.demands.specs.Link.{Crew, Allowed, State, Bears, start, Event, Possible, withTaken, lentStore, after}
 use Rattle.demands.specs.Link.Event.{makesValues, makesRows, comes}
 use Rattle.demands.specs.DemandThree.{LowerMade, Lower}
 use Rattle.demands.specs.DemandThree.LowerMade.{values, rows}
@@ -93,7 +93,7 @@ module _ (c : Crew) (w : Allowed c) where
       rw body (rw same at holds)
   step-holds m n spoken (rows r words marks few is same covers) = absurd (rows-step c w m r (sentRows e words marks r) few is n spoken)
 
-  lower-change : (site : ℕ) (x : Held) (store m : List ℕ) → LowerAt site x → (runOf m ≡ c .run → LowerMade c m) → (h : Held)
+  lower-change : (site : ℕ) (x : Held) (store m : List ℕ) → LowerAt site x → (Bears (c .run) m → LowerMade c m) → (h : Held)
       → Change c site x store m h → LowerAt site h
   lower-change site x store m low sent h (refused is) = rw is low
   lower-change site x store m low sent h (arrives r spoken own here whole new room is) = rw is low

@@ -1,7 +1,7 @@
 -- 16,400 words of store hold every run: a row message that comes to the assembly site, lent so much, has arrived afterwards.
 use mathlib.Core.Path.{_≡_, refl, sym, ap, _∙_}
 use mathlib.Core.Bool.{Bool, true, false, false≢true}
-use mathlib.Core.List.{List, List·Memᴰ}
+use mathlib.Core.List.{List, [], List·Memᴰ}
 use mathlib.Core.Logic.{inl}
 use Prim.Native.Nat.{ℕ, _+_, _≤_, _<_}
 use native.Mathlib.Nat.{min-le-left}
@@ -34,7 +34,7 @@ use Rattle.station.proofs.CallLaws.{leaves-good}
 use Rattle.ends.proofs.MessageLaws.{about-rows, rows-below, row-run, row-front, row-counted}
 use Rattle.station.proofs.RoomLaws.{mostOf, message-most, heldBy, held-within, room-suffices}
 use Rattle.answerer.proofs.DeliveredLaws.{sentOf}
-use Rattle.demands.specs.Link.{Crew, Allowed, State, openedAt, start, Event, Possible, withTaken, lentStore, after}
+use Rattle.demands.specs.Link.{Crew, Allowed, State, Bears, openedAt, start, Event, Possible, withTaken, lentStore, after}
 use Rattle.demands.specs.Link.Event.{makesValues, makesRows, comes}
 use Rattle.demands.specs.DemandThree.{LowerMade, Lower}
 use Rattle.demands.specs.DemandThree.LowerMade.{values, rows}
@@ -96,7 +96,7 @@ module _ (c : Crew) (w : Allowed c) where
       omega (arith, none)
 
   room-change : (made : List (List ℕ)) (site : ℕ) (x : Held) (store m : List ℕ) → SoundAt c made site x → RoomAt x
-      → (runOf m ≡ c .run → LowerMade c m) → (h : Held) → Change c site x store m h → RoomAt h
+      → (Bears (c .run) m → LowerMade c m) → (h : Held) → Change c site x store m h → RoomAt h
   unfolding withApplied appliedTo
   room-change made site x store m s fits sent h (refused is) = rw is fits
   room-change made site x store m s fits sent h (reduces n spoken own here next is) = rw is fits
@@ -120,7 +120,7 @@ module _ (c : Crew) (w : Allowed c) where
   -- ---- a row message that comes
 
   module _ (s : State) (sound : Sound c s) (low : Lower c s) (fits : Roomy s) (r : ℕ) (few : r < relationCount e) (m behind : List ℕ)
-      (there : List·Memᴰ m (s .made)) (second : secondOf m ≡ 256 + r) (wide : 16400 ≤ length (lentStore (s .at (p .site)) behind)) where
+      (there : List·Memᴰ m (s .made)) (second : secondOf m ≡ 256 + r) where
     abbrev x : Held
     x = s .at (c .papers .program .site)
 
@@ -139,16 +139,17 @@ module _ (c : Crew) (w : Allowed c) where
     abbrev now : Held
     now = record { end = withArrived (x .end) r (length m); marks = x .marks; store = sets store (x .end .used) m }
 
-    came : hasArrived (x .end) r ≡ false → receiveOf (x .end) (c .tables (p .site)) (x .marks) store m ≡ good now 0
-    came new =
-        let (most, whole, own, three) = row-known m r (low .made m there) said in
+    enough : hasArrived (x .end) r ≡ false → x .end .used + length m ≤ 16400
+    enough new =
+        room-suffices e (c .whole) (x .end) (fits (p .site) (assembly-few c w)) m r few new (row-known m r (low .made m there) said .0) (s-at .arrivals) (w .sizes)
+
+    came : x .end .used + length m ≤ length store → hasArrived (x .end) r ≡ false
+        → receiveOf (x .end) (c .tables (p .site)) (x .marks) store m ≡ good now 0
+    came wide new =
+        let (_, whole, own, three) = row-known m r (low .made m there) said in
         received c w (s .made) (p .site) (assembly-few c w) x s-at store m
         ∙ rows-come (c .papers) (x .end) (c .tables (p .site)) (x .marks) store m three (own ∙ sym (s-at .run)) r spoken (s-at .place) whole new
-        (omega (
-          arith,
-          wide,
-          room-suffices e (c .whole) (x .end) (fits (p .site) (assembly-few c w)) m r few new most (s-at .arrivals) (w .sizes),
-        ))
+        wide
 
     now-arrived : hasArrived (now .end) r ≡ true
     unfolding withArrived
@@ -179,7 +180,7 @@ module _ (c : Crew) (w : Allowed c) where
       (λ z. stays-change at (s .at at) store m r z _ (changes c w (s .made) at small (s .at at) (sound at small) store m)) site l t
 
   pub row-arrives : (s : State) → Sound c s → Lower c s → Roomy s → (r : ℕ) → r < relationCount e → (m behind : List ℕ) → List·Memᴰ m (s .made)
-      → secondOf m ≡ 256 + r → 16400 ≤ length (lentStore (s .at (p .site)) behind)
+      → secondOf m ≡ 256 + r → s .at (p .site) .end .used + length m ≤ length (lentStore (s .at (p .site)) behind)
       → hasArrived (after c s (comes (p .site) m behind) .at (p .site) .end) r ≡ true
   unfolding after
   row-arrives s sound low fits r few m behind there second wide = go (hasArrived (s .at (p .site) .end) r) refl
@@ -191,6 +192,10 @@ module _ (c : Crew) (w : Allowed c) where
           let store = lentStore y behind in
           ap (λ (o : Outcome Held). hasArrived (withTaken s (p .site) store o .at (p .site) .end) r) (came s sound low fits r few m behind there second wide t)
           ∙ ap (λ (h : Held). hasArrived (h .end) r)
-          (taken-here s (p .site) store (good (now s sound low fits r few m behind there second wide) 0)
-          ∙ leaves-good (λ (h : Held). h) (record { end = y .end; marks = y .marks; store = store }) (now s sound low fits r few m behind there second wide) 0)
-          ∙ now-arrived s sound low fits r few m behind there second wide
+          (taken-here s (p .site) store (good (now s sound low fits r few m behind there second) 0)
+          ∙ leaves-good (λ (h : Held). h) (record { end = y .end; marks = y .marks; store = store }) (now s sound low fits r few m behind there second) 0)
+          ∙ now-arrived s sound low fits r few m behind there second
+
+  pub row-suffices : (s : State) → Sound c s → Lower c s → Roomy s → (r : ℕ) → r < relationCount e → hasArrived (s .at (p .site) .end) r ≡ false
+      → (m : List ℕ) → List·Memᴰ m (s .made) → secondOf m ≡ 256 + r → s .at (p .site) .end .used + length m ≤ 16400
+  row-suffices s sound low fits r few new m there second = enough s sound low fits r few m [] there second new

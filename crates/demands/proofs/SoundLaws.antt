@@ -2,7 +2,7 @@
 -- those read back, no step is counted that the program has not, and the store is the row messages that arrived.
 use mathlib.Core.Path.{_≡_, refl, sym, ap, _∙_}
 use mathlib.Core.Bool.{Bool, true, false, _&&_}
-use mathlib.Core.List.{List, _∷_, _++_, List·Memᴰ, List·Memᴰ·tail}
+use mathlib.Core.List.{List, [], _∷_, _++_, List·Memᴰ, List·Memᴰ·tail}
 use mathlib.Core.Logic.{inl, inr}
 use Prim.Native.Nat.{ℕ, suc, _+_, _-_, _≤_, _<_}
 use native.Mathlib.Decide.{ℕ-discrete}
@@ -37,7 +37,7 @@ use Rattle.station.proofs.CallLaws.{leaves-good, leaves-bad}
 use Rattle.ends.proofs.MessageLaws.{step-below, rows-below}
 use Rattle.answerer.specs.Stores.{SoundRows, OneOfEach}
 use Rattle.answerer.proofs.DeliveredLaws.{one-more}
-use Rattle.demands.specs.Link.{Crew, Allowed, State, withTaken, lentStore}
+use Rattle.demands.specs.Link.{Crew, Allowed, State, Bears, withTaken, lentStore}
 use Rattle.demands.proofs.TakenLaws.{receive-by}
 use Rattle.demands.proofs.RunLaws.{place-own, place-mono}
 use Rattle.demands.proofs.AppendedLaws.{held-map}
@@ -76,7 +76,7 @@ Sound c s = (site : ℕ) → site ≤ 7 → SoundAt c (s .made) site (s .at site
 pub data Change (c : Crew) (site : ℕ) (x : Held) (store m : List ℕ) (h : Held) : Type 0 where
   refused : h ≡ record { end = x .end; marks = x .marks; store = store } → Change c site x store m h
   reduces : (n : ℕ) → aboutOf (stepCount (c .papers .program)) (relationCount (c .papers .envelope)) (secondOf m) ≡ about.Step n
-      → runOf m ≡ c .run → isAt (c .papers .envelope) site (stepOf (c .papers .program) n .left .relation) ≡ true
+      → Bears (c .run) m → isAt (c .papers .envelope) site (stepOf (c .papers .program) n .left .relation) ≡ true
       → appliedOf (x .end) (stepOf (c .papers .program) n .left .relation)
       ≡ placeOf (c .papers .program) (stepOf (c .papers .program) n .left .relation) n
       → h ≡ record {
@@ -86,10 +86,18 @@ pub data Change (c : Crew) (site : ℕ) (x : Held) (store m : List ℕ) (h : Hel
       }
       → Change c site x store m h
   arrives : (r : ℕ) → aboutOf (stepCount (c .papers .program)) (relationCount (c .papers .envelope)) (secondOf m) ≡ about.Rows r
-      → runOf m ≡ c .run → site ≡ c .papers .program .site → counted (length (keptColumns (c .papers .envelope) r)) m ≡ true
+      → Bears (c .run) m → site ≡ c .papers .program .site → counted (length (keptColumns (c .papers .envelope) r)) m ≡ true
       → hasArrived (x .end) r ≡ false → x .end .used + length m ≤ length store
       → h ≡ record { end = withArrived (x .end) r (length m); marks = x .marks; store = sets store (x .end .used) m }
       → Change c site x store m h
+
+-- a message that is taken bears the run's number, and one that bears it begins with it
+run-borne : (m : List ℕ) (run : ℕ) → frontLength ≤ length m → runOf m ≡ run → Bears run m
+run-borne [] run three own = absurd (omega (arith, three))
+run-borne (x ∷ rest) run three own = (rest, ap (λ (y : ℕ). y ∷ rest) own)
+
+borne-run : (m : List ℕ) (run : ℕ) → Bears run m → runOf m ≡ run
+borne-run m run (rest, is) = ap runOf is
 
 held-is : (h : Held) (a : End) (b d : List ℕ) → h .end ≡ a → h .marks ≡ b → h .store ≡ d → h ≡ record { end = a; marks = b; store = d }
 held-is h a b d p q r = rw (← p, ← q, ← r) refl
@@ -120,10 +128,10 @@ module _ (c : Crew) (w : Allowed c) (made : List (List ℕ)) (site : ℕ) (small
           (which (with-facts (c .papers) (x .end) (c .tables site) (x .marks) store m h u (sym f)))
         where
           which : (frontLength ≤ length m) × (runOf m ≡ x .end .run) × Taken (c .papers) (x .end) (c .tables site) (x .marks) store m h → Change c site x store m h
-          which (_, own, inl (n, is, t, kept)) =
-              reduces n is (own ∙ s .run) (rw (s .place) at (t .here)) (sym (t .due)) (held-is h _ _ _ (t .end) (t .marked) kept)
-          which (_, own, inr (r, is, t, kept)) =
-              arrives r is (own ∙ s .run) (sym (s .place) ∙ t .here) (t .sound) (t .first) (t .fits) (held-is h _ _ _ (t .end) kept (t .stored))
+          which (three, own, inl (n, is, t, kept)) =
+              reduces n is (run-borne m (c .run) three (own ∙ s .run)) (rw (s .place) at (t .here)) (sym (t .due)) (held-is h _ _ _ (t .end) (t .marked) kept)
+          which (three, own, inr (r, is, t, kept)) =
+              arrives r is (run-borne m (c .run) three (own ∙ s .run)) (sym (s .place) ∙ t .here) (t .sound) (t .first) (t .fits) (held-is h _ _ _ (t .end) kept (t .stored))
 
 -- ---- one site changes, the others stay
 
@@ -185,7 +193,7 @@ module _ (c : Crew) (made : List (List ℕ)) (site : ℕ) (x : Held) (s : SoundA
       ∙ take-at (take (x .end .used) lent ++ m) (drop (x .end .used + length m) lent) (x .end .used + length m) long
       ∙ ap (λ (l : List ℕ). l ++ m) lent-same
 
-  pub stays-sound : (runOf m ≡ c .run → List·Memᴰ m made) → (h : Held) → Change c site x (lentStore x behind) m h → SoundAt c made site h
+  pub stays-sound : (Bears (c .run) m → List·Memᴰ m made) → (h : Held) → Change c site x (lentStore x behind) m h → SoundAt c made site h
   unfolding withApplied appliedTo withArrived
   stays-sound there h (refused is) =
       rw is
@@ -262,7 +270,7 @@ module _ (c : Crew) (made : List (List ℕ)) (site : ℕ) (x : Held) (s : SoundA
       sound : SoundRows (c .papers .envelope) (c .run) r m
       sound =
           record {
-            own = own;
+            own = borne-run m (c .run) own;
             about = rows-any (stepCount (c .papers .program)) (relationCount (c .papers .envelope)) (secondOf m) r spoken;
             whole = whole;
           }

@@ -17,11 +17,10 @@ use Rattle.semijoin.specs.Local.{openedIn}
 use Rattle.semijoin.proofs.PromiseLaws.{promise}
 use Rattle.station.specs.Calls.{leaves}
 use Rattle.ends.specs.Ends.{Marked, startOf, noEnd}
-use Rattle.ends.specs.Messages.{runOf}
 use Rattle.station.specs.Opening.{openWith, openOf}
 use Rattle.station.specs.Receiving.{receiveOf}
 use Rattle.station.proofs.CallLaws.{leaves-good}
-use Rattle.demands.specs.Link.{Crew, Allowed, State, openingAt, openedAt, Event, Possible, withMade, lentStore, after}
+use Rattle.demands.specs.Link.{Crew, Allowed, State, Bears, openingAt, openedAt, Event, Possible, withMade, lentStore, after}
 use Rattle.demands.specs.Link.Event.{makesValues, makesRows, comes}
 use Rattle.answerer.specs.Stores.OneOfEach.{none}
 use Rattle.demands.proofs.AppendedLaws.{none-due}
@@ -114,7 +113,7 @@ module _ (s : State) (Q : State → Type 0) where
   made-cases (bad n u) same more = same
 
 -- a message of this run was made
-pub own-made : (c : Crew) (s : State) (m : List ℕ) → (List·Memᴰ m (s .made) ⊎ (runOf m ≡ c .run → ⊥)) → runOf m ≡ c .run → List·Memᴰ m (s .made)
+pub own-made : (c : Crew) (s : State) (m : List ℕ) → (List·Memᴰ m (s .made) ⊎ (Bears (c .run) m → ⊥)) → Bears (c .run) m → List·Memᴰ m (s .made)
 own-made c s m (inl there) own = there
 own-made c s m (inr other) own = absurd (other own)
 

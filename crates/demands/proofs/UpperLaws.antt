@@ -25,14 +25,14 @@ use Rattle.semijoin.specs.Promise.{rowOf, keptAt, FewerRows, FewerValues}
 use Rattle.semijoin.proofs.PromiseLaws.{promise}
 use Rattle.ends.specs.Reducing.{stepCount, stepOf, placeOf}
 use Rattle.ends.specs.Ends.{appliedOf, startOf}
-use Rattle.ends.specs.Messages.{runOf, secondOf, bodyOf, aboutOf}
+use Rattle.ends.specs.Messages.{secondOf, bodyOf, aboutOf}
 use Rattle.station.specs.Making.{sentRows, makeValuesOf, makeRowsOf}
 use Rattle.station.specs.Receiving.{Held, appliedTo, withApplied, withArrived, receiveOf}
 use Rattle.ends.specs.declared.messages.About.the-variants as about
 use Rattle.ends.specs.declared.ends.End.{End}
 use Rattle.ends.proofs.EndLaws.{here-below}
 use Rattle.ends.proofs.MessageLaws.{step-below}
-use Rattle.demands.specs.Link.{Crew, Allowed, State, start, Event, Possible, withTaken, lentStore, after}
+use Rattle.demands.specs.Link.{Crew, Allowed, State, Bears, start, Event, Possible, withTaken, lentStore, after}
 use Rattle.demands.specs.Link.Event.{makesValues, makesRows, comes}
 use Rattle.demands.specs.DemandThree.{runAfter, UpperMade, Upper}
 use Rattle.demands.specs.DemandThree.UpperMade.{values, rows}
@@ -174,7 +174,7 @@ module _ (c : Crew) (w : Allowed c) where
             up r k there many i
             (sym (ap (λ (l : List ℕ). isKept (getD l i 0)) (promise e .others-stay (c .tables site) (bodyOf m) (x .marks) (stepOf p n .left) r t)) ∙ kept)
 
-  upper-change : (made : List (List ℕ)) (site : ℕ) (x : Held) (store m : List ℕ) → SoundAt c made site x → UpperAt site x → (runOf m ≡ c .run → UpperMade c m)
+  upper-change : (made : List (List ℕ)) (site : ℕ) (x : Held) (store m : List ℕ) → SoundAt c made site x → UpperAt site x → (Bears (c .run) m → UpperMade c m)
       → (h : Held) → Change c site x store m h → UpperAt site h
   unfolding withApplied appliedTo withArrived
   upper-change made site x store m s up sent h (refused is) = rw is up

@@ -89,10 +89,13 @@ pub record Answers (c : Crew) (s : State) : Type 0 where
   -- what it holds is one sound row message of each relation that has, and no row is in them that the one-place run removes
   pub held : OneOfEach (c .papers .envelope) (λ r m. UpperMade c m × SoundRows (c .papers .envelope) (c .run) r m) (answering c s .end .arrived)
       (take (answering c s .end .used) (answering c s .store))
-  -- a relation's row message that comes to it, lent a store of 16,400 words, has arrived then, and stays so
+  -- a relation's row message that comes to it, and for which there is room, has arrived then, and stays so; of every run 16,400
+  -- words are room enough
   pub arrives : (r : ℕ) → r < relationCount (c .papers .envelope) → (m behind : List ℕ) → List·Memᴰ m (s .made) → secondOf m ≡ 256 + r
-      → 16400 ≤ length (lentStore (answering c s) behind)
+      → answering c s .end .used + length m ≤ length (lentStore (answering c s) behind)
       → hasArrived (answering c (after c s (comes (c .papers .program .site) m behind)) .end) r ≡ true
+  pub suffices : (r : ℕ) → r < relationCount (c .papers .envelope) → hasArrived (answering c s .end) r ≡ false → (m : List ℕ) → List·Memᴰ m (s .made)
+      → secondOf m ≡ 256 + r → answering c s .end .used + length m ≤ 16400
   pub stays : (x : Event) → Possible c s x → (r : ℕ) → hasArrived (answering c s .end) r ≡ true → hasArrived (answering c (after c s x) .end) r ≡ true
 
 -- ---- demand 3, of every history from the openings

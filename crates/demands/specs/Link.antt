@@ -24,7 +24,6 @@ use Rattle.tables.specs.Shape.{shaped}
 use Rattle.semijoin.specs.Promise.{SameRows}
 use Rattle.station.specs.Calls.{leaves}
 use Rattle.ends.specs.Ends.{Marked, noEnd}
-use Rattle.ends.specs.Messages.{runOf}
 use Rattle.station.specs.Opening.{openOf, openedMarks}
 use Rattle.station.specs.Making.{makeValuesOf, makeRowsOf}
 use Rattle.station.specs.Receiving.{Held, receiveOf}
@@ -58,7 +57,7 @@ pub record State : Type 0 where
   pub at : ℕ → Held
   pub made : List (List ℕ)
 
--- after the openings
+-- after the openings; a site that is opened late is one at which nothing happened before
 abbrev pub openingAt : Crew → ℕ → Outcome Marked
 openingAt c site = openOf (c .envelope) (c .program) site (c .run) (c .tables site) (c .lent site)
 
@@ -82,11 +81,15 @@ pub data Event : Type 0 where
   makesRows : (site relation room : ℕ) → Event
   comes : (site : ℕ) (message behind : List ℕ) → Event
 
--- what comes is a message that was made, now or long ago, for this site or another; or one of another run
+-- a message bears a run's number: its first word is that, and there is one
+abbrev pub Bears : ℕ → List ℕ → Type 0
+Bears run message = (rest : List ℕ) × (message ≡ run ∷ rest)
+
+-- what comes is a message that was made, now or long ago, for this site or another; or one of another run, of any words
 abbrev pub Possible : Crew → State → Event → Type 0
 Possible c s (makesValues site step room) = site ≤ 7
 Possible c s (makesRows site relation room) = site ≤ 7
-Possible c s (comes site message behind) = (site ≤ 7) × (List·Memᴰ message (s .made) ⊎ (runOf message ≡ c .run → ⊥))
+Possible c s (comes site message behind) = (site ≤ 7) × (List·Memᴰ message (s .made) ⊎ (Bears (c .run) message → ⊥))
 
 -- ---- what stands afterwards
 
