@@ -21,4 +21,5 @@ pub mod DemandThreeLaws
 pub mod Unique
 pub mod UniquePapers
 pub mod UniqueStations
+pub mod Excluded
 pub mod Figures
