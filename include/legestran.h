@@ -7,6 +7,10 @@
  * Every call answers one number of 64 bits. legestran_number() of it is 0 where the call was taken, else the number it is refused
  * by; legestran_value() is the length written, in elements (0 for calls that write nothing to the front of a buffer), or what goes
  * with the refusal. A refused call has written nothing anywhere. Positions, steps and relations are counted from 0.
+ *
+ * Envelopes and programs are bytes as the rules paper lists them, "Papers on the wire" (crates/envelopes/specs/Envelope.antt and
+ * crates/papers/specs/Programs.antt have every field). Tables are words: the row count of each relation, then the rows, relation
+ * by relation, all columns. Marks are bytes, one for each row of the tables, in their order. A call needs up to about 64 KiB of stack.
  */
 #ifndef LEGESTRAN_H
 #define LEGESTRAN_H
@@ -50,7 +54,9 @@ enum legestran_refusal {
 static inline uint32_t legestran_number(uint64_t answer) { return (uint32_t)(answer >> 32); }
 static inline uint32_t legestran_value(uint64_t answer) { return (uint32_t)answer; }
 
-/* Sizes that always suffice: a program's bytes; an estimate's words; an end's state; a value message; a row message; a store. */
+/* Sizes that suffice: a program's bytes; an estimate's words; an end's state; a value message; a row message; a store, where the tables
+ * of all stations together are within 16,384 words. Marks: as many bytes as the tables have rows. No size suffices for every answer:
+ * where it is 11, lend more. */
 enum {
     LEGESTRAN_PROGRAM_BYTES = 631,
     LEGESTRAN_ESTIMATE_WORDS = 628,
@@ -70,15 +76,20 @@ uint64_t legestran_read_program(legestran_bytes envelope, legestran_bytes progra
 uint64_t legestran_plan(legestran_bytes envelope, legestran_bytes_out program);
 
 /* 4. Runs a program in one place, on the tables of every relation: afterwards marks has one byte for each row, in the order of the
- * tables, 0 where the row cannot take part in an answer by the program's steps, else 1. After the papers 10, 11. */
+ * tables, 0 where the local operations or a step removed the row, else 1. After the papers 10, 11. */
 uint64_t legestran_run_in_one_place(legestran_bytes envelope, legestran_bytes program, legestran_words tables, legestran_bytes_out marks);
 
 /* 5. Answers from tables: writes the words of the answer's rows to the front of out; the value is how many. Then 10, 11. */
 uint64_t legestran_answer(legestran_bytes envelope, legestran_words tables, legestran_words_out out);
 
 /* 6. Opens a station's end for a run, whose number the stations agree on. The tables follow the envelope; relations of other sites
- * may have 0 rows. Sets marks, one byte for each row, and the first 19 words of state, in which the end is kept: hand marks and
- * state to every later call as they are. After the papers 10, 4 (site above 7), 11. */
+ * may have 0 rows. Sets marks, one byte for each row, and the first 19 words of state, in which the end is kept; words of state for
+ * relations that the envelope has not stay as they were. Hand marks and state to every later call as they are, with the same papers
+ * and the same tables: a table that changes during a run moves the marks. After the papers 10, 4 (site above 7), 11 (marks, then a
+ * state of fewer than 19 words).
+ *
+ * The calls 7 to 10 begin with the end: 11 (a state of fewer than 19 words), the papers' numbers, and 4 at 0 for a state that no call
+ * has written; "after the end" below. */
 uint64_t legestran_open(legestran_bytes envelope, legestran_bytes program, uint32_t site, uint32_t run, legestran_words tables,
                         legestran_bytes_out marks, legestran_words_out state);
 
