@@ -1,11 +1,12 @@
--- "Excluded by name: refusing everything ..; one fixed plan or answer": none of them does what demand 2 says, shown on the
--- envelopes and tables of 01's figures. Stations that ship whole tables or apply the first step alone, and an invented cost, are
--- excluded by the fields of DemandTwo and by Upper, which say each row and each number.
+-- "Excluded by name: refusing everything ..; one fixed plan or answer ..; stations that reduce nothing": none of them does what
+-- demand 2 says, shown on the envelopes and tables of 01's figures. To ship whole tables, to apply the first step alone and to invent
+-- a cost are excluded by the fields of DemandTwo and by Upper, which say each row and each number.
 use mathlib.Core.Path.{_≡_, refl, sym, ap, _∙_}
-use mathlib.Core.List.{List}
+use mathlib.Core.Bool.{true}
+use mathlib.Core.List.{List, [], _∷_}
 use Prim.Native.Nat.{ℕ}
 use native.Mathlib.Omega.{arith}
-use lib.ListN.{length, replicate}
+use lib.ListN.{length, getD, replicate}
 use Rattle.ground.specs.Lists.{padded, numbersFrom}
 use Rattle.ground.specs.Outcome.{numbered}
 use Rattle.ground.specs.Outcome.Outcome.{good, bad}
@@ -15,7 +16,7 @@ use Rattle.ground.specs.Rising.{insert, rising}
 use Rattle.ground.proofs.OutcomeLaws.{good-bad}
 use Rattle.fields.specs.Numbers.{numberAt, numberThat, marked, markOf, versionAt, headOf}
 use Rattle.entries.specs.Relations.{columnsOf, columnAt, columnBytes, columnsThen, relationAt, relationBytes}
-use Rattle.entries.specs.Places.{samePlace, placeAt, placeBytes}
+use Rattle.entries.specs.Places.{place, samePlace, placeAt, placeBytes}
 use Rattle.entries.specs.Clauses.{domainOf, selectionAt, joined, joinAt, clauseAt, kindBytes}
 use Rattle.contents.specs.Parts.{columnsIn, sizesOf, relationsOf, clausesOf, targetsOf, withVersion, withSizes, withRelations, withClauses, withTargets}
 use Rattle.contents.specs.Kept.{names, kept, keptColumns, firstBare}
@@ -23,6 +24,8 @@ use Rattle.contents.specs.Sites.{siteOf, isAt, holds}
 use Rattle.contents.specs.declared.envelope.Envelope.{Envelope}
 use Rattle.envelopes.specs.Envelope.{filled, listInto, ended, targetsThen, clausesThen, relationsThen, sizesThen, envelopeFrom, envelopeBytes, checkEnvelope}
 use Rattle.paths.specs.Paths.{edges, onPath}
+use Rattle.paths.specs.Steps.{step, isPlace, legalBy, legal}
+use Rattle.paths.specs.declared.steps.Step.{Step}
 use Rattle.paths.specs.Implied.{constantsOf, selectionsBy}
 use Rattle.paths.specs.Meaning.{rowsIn, tablesIn, tablesOf, meetsAll, answerOn, answerRows}
 use Rattle.estimates.specs.Division.{over}
@@ -35,7 +38,9 @@ use Rattle.planner.specs.declared.plans.Plan.{Plan}
 use Rattle.planner.proofs.Figures.{E1, fallen}
 use Rattle.tables.specs.Offsets.{countIn, firstWord, wordsBefore}
 use Rattle.tables.specs.Shape.{shaped}
+use Rattle.semijoin.specs.Run.{stepped}
 use Rattle.semijoin.proofs.Figures.{onNumber, onDate, couponWeigh}
+use Rattle.semijoin.proofs.Figures as reduced
 use Rattle.answerer.specs.Answer.{fitted, answerChecked, answerOutcome}
 
 -- ---- what the definitions give
@@ -57,6 +62,20 @@ answerOf e n = (w : List ℕ) × (u : ℕ) × (answerOutcome e couponWeigh (repl
 answers : answerOf onNumber 6 × answerOf onDate 12
 unfolding padded numbersFrom numbered littleEnd bytesOf firstFrom numberAt numberThat marked markOf versionAt headOf columnsOf columnAt columnBytes columnsThen relationAt relationBytes samePlace placeAt placeBytes domainOf selectionAt joined joinAt clauseAt kindBytes columnsIn sizesOf relationsOf clausesOf targetsOf withVersion withSizes withRelations withClauses withTargets names kept keptColumns firstBare filled listInto ended targetsThen clausesThen relationsThen sizesThen envelopeFrom envelopeBytes checkEnvelope rowsIn tablesIn tablesOf meetsAll answerOn answerRows countIn firstWord wordsBefore shaped fitted answerChecked answerOutcome
 answers = ((_, 0, refl, refl), (_, 0, refl, refl))
+
+-- a legal step, and that of the marks that keep every row it removes the third
+abbrev onDates : Step
+onDates = step (place 0 1) (place 1 1)
+
+abbrev allKept : List ℕ
+allKept = 1 ∷ 1 ∷ 1 ∷ 1 ∷ 1 ∷ 1 ∷ 1 ∷ 9 ∷ []
+
+dates-legal : legal onDate onDates ≡ true
+unfolding padded samePlace domainOf relationsOf clausesOf columnsIn withVersion withSizes withRelations withClauses withTargets edges onPath isPlace legalBy
+dates-legal = refl
+
+third-removed : getD (stepped onDate couponWeigh onDates allKept) 2 1 ≡ 0
+third-removed = ap (λ (l : List (List ℕ)). getD (getD l 4 []) 2 1) reduced.figures-hold
 
 -- ---- so
 
@@ -80,3 +99,9 @@ not-one-answer w all =
     let same : length v ≡ length y =
     ap (λ (l : List ℕ). length l) (all onNumber couponWeigh (replicate 12 0) v u h ∙ sym (all onDate couponWeigh (replicate 12 0) y z k)) in
     omega (arith, same, six, twelve)
+
+-- of legal steps
+pub not-reducing-nothing : ((e : Envelope) (words marks : List ℕ) (s : Step) → legal e s ≡ true → stepped e words s marks ≡ marks) → ⊥
+not-reducing-nothing all =
+    let same : getD (stepped onDate couponWeigh onDates allKept) 2 1 ≡ 1 = ap (λ (l : List ℕ). getD l 2 1) (all onDate couponWeigh allKept onDates dates-legal) in
+    omega (arith, same, third-removed)

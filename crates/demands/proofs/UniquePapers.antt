@@ -2,7 +2,7 @@
 -- equation are equal, and so is what it leaves in what is lent. Five of estimates also ask for bounds (docs/CONTRACTS.md), which the
 -- equation does not need; put_head says besides that its result is at most 5.
 use Prim.Native.Nat.{min, ℕ}
-use lib.ListN.{getD, length}
+use lib.ListN.{getD}
 use lib.Seq.{sets}
 use mathlib.Core.List.{List, [], _++_, _∷_}
 use Rattle.ground.specs.Bytes.{bytesOf}

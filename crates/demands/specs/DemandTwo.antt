@@ -6,6 +6,7 @@
 -- and every number to the envelope, answer every word to the tables. "Stations that reduce nothing and ship whole
 -- tables, or that apply the first step and skip the rest": run-folds and step say which rows are kept, and Upper and
 -- Answers of DemandThree that no other is sent or held. "An invented cost or benefit": estimate, and PlanKept for the plan.
+-- proofs/Excluded.antt has the first three as laws.
 use Prim.Native.Nat.{ℕ, _+_, _≤_, _<_}
 use mathlib.Core.Path.{_≡_}
 use mathlib.Core.Bool.{true}
