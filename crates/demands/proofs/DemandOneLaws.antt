@@ -41,6 +41,7 @@ use Rattle.answerer.specs.Sources.{noLay}
 use Rattle.answerer.specs.Assembly.{firstAwaited, answerFrom, assembled, assembledWith, assembledOutcome}
 use Rattle.answerer.specs.declared.sources.Lay.{Lay}
 use Rattle.answerer.specs.declared.sources.Source.{Source}
+use Rattle.demands.proofs.StructPapers.{check-struct, papers-struct}
 use Rattle.demands.proofs.PaperLaws.{read-number, check-number, program-read-number, program-check-number, papers-number, write-refused, plan-refused, estimate-refused}
 use Rattle.demands.specs.DemandOne.{papersNumbers, PapersOr, EnvelopeOr, DemandOne}
 
@@ -254,6 +255,8 @@ demand-one =
           let (k, stays) = write-refused (checkEnvelope e) (envelopeBytes e) out n u h in (envelope-write e n u k, stays);
       program-written = λ e p out n u h.
           let (k, stays) = write-refused (checkProgram e p) (programBytes p) out n u h in (program-write e p n u k, stays);
+      envelope-struct = check-struct;
+      papers-struct = papers-struct;
       planning = λ e n u h. check-number e n u (plan-refused (checkEnvelope e) n u h);
       planning-bytes = λ s n u h. read-number s n u (plan-refused _ n u h);
       estimating = λ e p n u h. estimate-number e p n u (estimate-refused (checkEnvelope e) (checkProgram e p) n u h);

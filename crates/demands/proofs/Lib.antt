@@ -1,6 +1,8 @@
 -- The demands hold.
 pub mod NumberLaws
 pub mod PaperLaws
+pub mod StructLaws
+pub mod StructPapers
 pub mod DemandOneLaws
 pub mod DemandTwoLaws
 pub mod CrewLaws

@@ -62,23 +62,27 @@ pub program-check-number : (e : Envelope) (p : Program) (n u : ℕ) → checkPro
 unfolding checkProgram
 program-check-number e p = program-read-number e (programBytes p)
 
-pub papers-number : (e : Envelope) (p : Program) (n u : ℕ) → papersOf e p ≡ bad n u → List·Memᴰ n papersNumbers
+-- both papers are refused where one of them is
+pub papers-by : {A : Type 0} (e : Envelope) (p : Program) (n u : ℕ) → papersOf e p ≡ bad n u → (checkEnvelope e ≡ bad n u → A)
+    → ((f : Envelope) → programAgainst f (programBytes p) ≡ bad n u → A) → A
 unfolding papersOf
-papers-number e p n u h = go (next-bad (checkEnvelope e) _ n u h)
+papers-by {A} e p n u h first second = go (next-bad (checkEnvelope e) _ n u h)
   where
     made : Envelope → Program → ℕ → Outcome Papers
     made f q at = good (record { envelope = f; program = q }) at
 
     rest : (f : Envelope) → (programAgainst f (programBytes p) ≡ bad n u)
-        ⊎ ((q : Program) × (v : ℕ) × (programAgainst f (programBytes p) ≡ good q v) × (made f q v ≡ bad n u)) → List·Memᴰ n papersNumbers
-    rest f (inl z) = against-number f (programBytes p) n u z
+        ⊎ ((q : Program) × (v : ℕ) × (programAgainst f (programBytes p) ≡ good q v) × (made f q v ≡ bad n u)) → A
+    rest f (inl z) = second f z
     rest f (inr (q, v, _, z)) = absurd (good-bad (record { envelope = f; program = q }) v n u z)
 
     go : (checkEnvelope e ≡ bad n u)
-        ⊎ ((f : Envelope) × (v : ℕ) × (checkEnvelope e ≡ good f v) × (next (programAgainst f (programBytes p)) (made f) ≡ bad n u))
-        → List·Memᴰ n papersNumbers
-    go (inl z) = List·Memᴰ·tail (check-number e n u z)
+        ⊎ ((f : Envelope) × (v : ℕ) × (checkEnvelope e ≡ good f v) × (next (programAgainst f (programBytes p)) (made f) ≡ bad n u)) → A
+    go (inl z) = first z
     go (inr (f, _, _, z)) = rest f (next-bad (programAgainst f (programBytes p)) (made f) n u z)
+
+pub papers-number : (e : Envelope) (p : Program) (n u : ℕ) → papersOf e p ≡ bad n u → List·Memᴰ n papersNumbers
+papers-number e p n u h = papers-by e p n u h (λ z. List·Memᴰ·tail (check-number e n u z)) (λ f z. against-number f (programBytes p) n u z)
 
 -- ---- writing
 

@@ -16,8 +16,10 @@ use Rattle.fields.specs.declared.puts.Written.the-variants as Written
 use Rattle.entries.specs.declared.places.Place.{Place}
 use Rattle.contents.specs.declared.envelope.Envelope.{Envelope}
 use Rattle.envelopes.specs.Envelope.{readEnvelope, checkEnvelope, envelopeWritten, envelopeWrittenIn}
+use Rattle.envelopes.specs.Fits.{Fits}
 use Rattle.papers.specs.Programs.{readProgram, checkProgram, programWritten, programWrittenIn}
 use Rattle.papers.specs.Checks.{papersOf}
+use Rattle.papers.specs.Fits.{ProgramFits}
 use Rattle.papers.specs.declared.programs.Program.{Program}
 use Rattle.estimates.specs.Estimate.{estimateOf}
 use Rattle.planner.specs.Plan.{planOf}
@@ -38,6 +40,10 @@ envelopeNumbers = endsInside ∷ wrongMark ∷ wrongVersion ∷ beyondLimit ∷ 
 abbrev pub papersNumbers : List ℕ
 papersNumbers = notLegal ∷ envelopeNumbers
 
+-- of an envelope that is a struct: its bytes have the mark, no field cut short and nothing left over, so neither 1, 2 nor 7
+abbrev pub structNumbers : List ℕ
+structNumbers = wrongVersion ∷ beyondLimit ∷ twoDomains ∷ sameColumn ∷ noKeptColumn ∷ []
+
 -- a refusal is that of the papers, as their bytes would be refused, or by one of these numbers
 abbrev pub PapersOr : Envelope → Program → List ℕ → ℕ → ℕ → Type 0
 PapersOr e p numbers n u = ((papersOf e p ≡ bad n u) × List·Memᴰ n papersNumbers) ⊎ List·Memᴰ n numbers
@@ -53,6 +59,10 @@ pub record DemandOne : Type 0 where
       → EnvelopeOr e (tooShort ∷ []) n u × (envelopeWrittenIn e out ≡ out)
   pub program-written : (e : Envelope) (p : Program) (out : List ℕ) (n u : ℕ) → programWritten e p out ≡ Written.Refused n u
       → List·Memᴰ n (tooShort ∷ papersNumbers) × (programWrittenIn e p out ≡ out)
+  -- structs whose numbers are within the width of their fields, as all are: 3, 4, 5, 6, 8, 9, wherever they are checked
+  pub envelope-struct : (e : Envelope) → Fits e → (n u : ℕ) → checkEnvelope e ≡ bad n u → List·Memᴰ n structNumbers
+  pub papers-struct : (e : Envelope) → Fits e → (p : Program) → ProgramFits p → (n u : ℕ) → papersOf e p ≡ bad n u
+      → List·Memᴰ n (notLegal ∷ structNumbers)
   -- planning and estimating: the papers' numbers alone
   pub planning : (e : Envelope) (n u : ℕ) → planOf (checkEnvelope e) .verdict ≡ Refused n u → List·Memᴰ n envelopeNumbers
   pub planning-bytes : (s : List ℕ) (n u : ℕ) → planOf (readEnvelope s) .verdict ≡ Refused n u → List·Memᴰ n envelopeNumbers
