@@ -123,18 +123,22 @@ fn opened() -> End {
 
 // ---- receiving
 
-fn receiving(what: &[u8], end: End, message: &[u32]) -> End {
-    let here = HERE;
-    let mut marks = [5u8, 7];
+fn receiving_on(what: &[u8], end: End, tables: &[u32], marks: &mut [u8], message: &[u32]) -> End {
     let mut store = [9u32; 4];
-    let received = station::receiving::receive(end, &here, &mut marks, &mut store, message);
+    let received = station::receiving::receive(end, tables, marks, &mut store, message);
     let verdict = received.verdict;
     let after = received.end;
     show::print_verdict(what, verdict);
-    show::print_marks(&marks);
+    show::print_marks(marks);
     show::print_words(b"  store", &store);
     show::print_end(after);
     after
+}
+
+fn receiving(what: &[u8], end: End, message: &[u32]) -> End {
+    let here = HERE;
+    let mut marks = [5u8, 7];
+    receiving_on(what, end, &here, &mut marks, message)
 }
 
 fn refusals(end: End) {
@@ -193,17 +197,22 @@ fn unsound() {
         &[5u32, 257, 1, 2],
     );
     let mut marks = [1u8; 1];
-    let mut store = [0u32; 4];
     let here = HERE;
-    let received = station::receiving::receive(end, &here, &mut marks, &mut store, &[5u32, 0, 0]);
-    let verdict = received.verdict;
-    show::print_verdict(b"receive with one mark", verdict);
-    show::print_marks(&marks);
+    receiving_on(
+        b"receive with one mark",
+        end,
+        &here,
+        &mut marks,
+        &[5u32, 0, 0],
+    );
     let short = [2u32, 0, 1];
-    let other = station::receiving::receive(end, &short, &mut marks, &mut store, &[5u32, 0, 0]);
-    let found = other.verdict;
-    show::print_verdict(b"receive on tables cut short", found);
-    show::print_marks(&marks);
+    receiving_on(
+        b"receive on tables cut short",
+        end,
+        &short,
+        &mut marks,
+        &[5u32, 0, 0],
+    );
 }
 
 // ---- making
