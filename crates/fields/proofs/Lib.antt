@@ -4,3 +4,4 @@ pub mod HeadLaws
 pub mod PutLaws
 pub mod ExactReading
 pub mod ExactNumbers
+pub mod Walk

@@ -2,4 +2,5 @@
 // version at its front; and the numbers that a paper, or a call, is refused by.
 pub mod numbers;
 pub mod puts;
+pub mod reader;
 pub mod refusals;

@@ -1,4 +1,5 @@
 // Numbers at a position of a paper, little end first, and the mark and version at its front.
+use crate::reader::Reader;
 use crate::refusals;
 ghost use mathlib.Core.Path.{_≡_};
 ghost use mathlib.Core.List.{_∷_, []};
@@ -28,72 +29,11 @@ pub enum NumberRead {
     Not { number: u8, position: usize },
 }
 
-fn wide(x: u8) -> u32
-    ensures { λ r. ⌜ (r ≡ x) × (r < 256) ⌝ }
-{
-    x as u32
-}
-
-fn one_at(s: &[u8], at: usize) -> NumberRead
-    ensures { λ r. ⌜ r ≡ shownNumber (numberAt 1 (now (s .entry)) at) ⌝ }
-{
-    if s.len() <= at {
-        return NumberRead::Not {
-            number: refusals::ENDS_INSIDE,
-            position: at,
-        };
-    }
-    NumberRead::Is(wide(s[at]), at + 1)
-}
-
-fn two_at(s: &[u8], at: usize) -> NumberRead
-    ensures { λ r. ⌜ r ≡ shownNumber (numberAt 2 (now (s .entry)) at) ⌝ }
-{
-    if s.len() <= at {
-        return NumberRead::Not {
-            number: refusals::ENDS_INSIDE,
-            position: at,
-        };
-    }
-    if s.len() - at < 2 {
-        return NumberRead::Not {
-            number: refusals::ENDS_INSIDE,
-            position: at,
-        };
-    }
-    NumberRead::Is(wide(s[at]) + 256 * wide(s[at + 1]), at + 2)
-}
-
-fn four_at(s: &[u8], at: usize) -> NumberRead
-    ensures { λ r. ⌜ r ≡ shownNumber (numberAt 4 (now (s .entry)) at) ⌝ }
-{
-    if s.len() <= at {
-        return NumberRead::Not {
-            number: refusals::ENDS_INSIDE,
-            position: at,
-        };
-    }
-    if s.len() - at < 4 {
-        return NumberRead::Not {
-            number: refusals::ENDS_INSIDE,
-            position: at,
-        };
-    }
-    NumberRead::Is(
-        wide(s[at]) + 256 * (wide(s[at + 1]) + 256 * (wide(s[at + 2]) + 256 * wide(s[at + 3]))),
-        at + 4,
-    )
-}
-
-// A number, whatever it is.
+// A number, whatever it is: a reader is made, and reads it. So every number of a paper is read by a reader.
 pub fn number_at(s: &[u8], at: usize, width: Width) -> NumberRead
     ensures { λ r. ⌜ r ≡ shownNumber (numberAt (bytesWide width) (now (s .entry)) at) ⌝ }
 {
-    match width {
-        Width::One => one_at(s, at),
-        Width::Two => two_at(s, at),
-        Width::Four => four_at(s, at),
-    }
+    crate::reader::number(Reader { bytes: s, at }, width)
 }
 
 // A number from low to high.

@@ -1,11 +1,11 @@
 use native.Mathlib.Omega.{arith}
 use Rattle.fields.proofs.NumberLaws.{number-short, number-is, four-bytes}
 use borrow.Author.Needs.{needs}
-use Rattle.fields.proofs.numbers.four_at.Statement.{statement}
-use Rattle.fields.proofs.numbers.four_at.Tie as tie
-use Rattle.fields.proofs.numbers.four_at.Reads as reads
-use Rattle.fields.proofs.numbers.four_at.Lts as lts
-use Rattle.fields.proofs.numbers.wide.Reads as wide-reads
+use Rattle.fields.proofs.reader.four_at.Statement.{statement}
+use Rattle.fields.proofs.reader.four_at.Tie as tie
+use Rattle.fields.proofs.reader.four_at.Reads as reads
+use Rattle.fields.proofs.reader.four_at.Lts as lts
+use Rattle.fields.proofs.reader.wide.Reads as wide-reads
 
 returns : tie.Need-returns
 returns c = number-short _ _ _ (omega arith)

@@ -1,11 +1,11 @@
 use native.Mathlib.Omega.{arith}
 use Rattle.fields.proofs.NumberLaws.{number-short, number-is, two-bytes}
 use borrow.Author.Needs.{needs}
-use Rattle.fields.proofs.numbers.two_at.Statement.{statement}
-use Rattle.fields.proofs.numbers.two_at.Tie as tie
-use Rattle.fields.proofs.numbers.two_at.Reads as reads
-use Rattle.fields.proofs.numbers.two_at.Lts as lts
-use Rattle.fields.proofs.numbers.wide.Reads as wide-reads
+use Rattle.fields.proofs.reader.two_at.Statement.{statement}
+use Rattle.fields.proofs.reader.two_at.Tie as tie
+use Rattle.fields.proofs.reader.two_at.Reads as reads
+use Rattle.fields.proofs.reader.two_at.Lts as lts
+use Rattle.fields.proofs.reader.wide.Reads as wide-reads
 
 returns : tie.Need-returns
 returns c = number-short _ _ _ (omega arith)
