@@ -1,41 +1,32 @@
 -- The laws of a paper's mark and version: one for each return of the functions that read them.
 -- Assumes nothing.
 use mathlib.Core.Path.{_≡_, refl, ap, sym, _∙_}
-use Prim.Native.Nat.{ℕ, _+_, _≤_, _<_}
+use Prim.Native.Nat.{ℕ, _+_, _-_, _≤_, _<_}
 use native.Mathlib.Omega.{arith}
 use mathlib.Core.List.{List, [], _∷_}
 use mathlib.Core.Bool.{Bool, true, false, _&&_}
 use lib.ListN.{length, getD}
-use lib.Dec.{eqb}
+use lib.Dec.{leb, eqb}
 use borrow.Author.Tests.{lt-leb, le-leb, eq-eqb, ne-eqb}
 use Rattle.ground.specs.Tests.{pick}
-use Rattle.ground.specs.Outcome.{Outcome, next}
+use Rattle.ground.specs.Outcome.{Outcome, next, verdictOf}
 use Rattle.ground.specs.Outcome.Outcome.{good, bad}
-use Rattle.fields.specs.Numbers.{numberAt, between, marked, markOf, versionAt, headOf, shownNumber}
+use Rattle.fields.specs.Numbers.{numberAt, between, marked, markOf, markAt, versionAt, headOf, shownNumber, versionBy, headBy}
+use Rattle.ground.specs.declared.Verdict.{Verdict}
+use Rattle.ground.specs.declared.Verdict.the-variants.{Taken, Refused}
 use Rattle.fields.specs.declared.numbers.NumberRead.{NumberRead}
 use Rattle.fields.specs.declared.numbers.NumberRead.the-variants.{Is, Not}
 use Rattle.ground.proofs.OutcomeLaws.{good-bad, next-good}
-use Rattle.fields.proofs.NumberLaws.{number-good, number-bad, between-true}
+use Rattle.fields.proofs.NumberLaws.{number-good, between-true}
 
-module _ (newest : ℕ) (s : List ℕ) (at : ℕ) (r : NumberRead) (e : r ≡ shownNumber (numberAt 2 s at)) where
-  pub version-refused : (n p : ℕ) → r ≡ Not n p → r ≡ shownNumber (versionAt newest s at)
-  unfolding versionAt shownNumber
-  version-refused n p g = g ∙ simp (number-bad (numberAt 2 s at) r n p e g)
+-- ---- the letters of a mark at a position
 
-  pub version-no : (v p : ℕ) → r ≡ Is v p → between 1 newest v ≡ false → Not 3 at ≡ shownNumber (versionAt newest s at)
-  unfolding versionAt shownNumber
-  version-no v p g h = simp (number-good (numberAt 2 s at) r v p e g, h)
-
-  pub version-yes : (v p : ℕ) → r ≡ Is v p → between 1 newest v ≡ true → Is v p ≡ shownNumber (versionAt newest s at)
-  unfolding versionAt shownNumber
-  version-yes v p g h = simp (number-good (numberAt 2 s at) r v p e g, h)
-
-module _ (a b c : ℕ) (s : List ℕ) where
-  pub marked-first : (getD s 0 0 ≡ a → ⊥) → false ≡ marked (a ∷ b ∷ c ∷ []) s 0
+module _ (a b c : ℕ) (s : List ℕ) (at : ℕ) where
+  pub marked-first : (getD s at 0 ≡ a → ⊥) → false ≡ marked (a ∷ b ∷ c ∷ []) s at
   unfolding marked
   marked-first h = simp (ne-eqb _ _ h)
 
-  pub marked-second : getD s 0 0 ≡ a → (getD s 1 0 ≡ b → ⊥) → false ≡ marked (a ∷ b ∷ c ∷ []) s 0
+  pub marked-second : getD s at 0 ≡ a → (getD s (at + 1) 0 ≡ b → ⊥) → false ≡ marked (a ∷ b ∷ c ∷ []) s at
   unfolding marked
   marked-second e h = simp (eq-eqb _ _ e, ne-eqb _ _ h)
 
@@ -43,23 +34,74 @@ module _ (a b c : ℕ) (s : List ℕ) where
   both-true true = refl
   both-true false = refl
 
-  pub marked-third : getD s 0 0 ≡ a → getD s 1 0 ≡ b → eqb (getD s 2 0) c ≡ marked (a ∷ b ∷ c ∷ []) s 0
+  pub marked-third : getD s at 0 ≡ a → getD s (at + 1) 0 ≡ b → eqb (getD s (at + 2) 0) c ≡ marked (a ∷ b ∷ c ∷ []) s at
   unfolding marked
-  marked-third e f = simp (eq-eqb _ _ e, eq-eqb _ _ f) (both-true (eqb (getD s 2 0) c))
+  marked-third e f =
+      let two : at + 1 + 1 ≡ at + 2 = omega arith in
+      simp (eq-eqb _ _ e, eq-eqb _ _ f, two) (both-true (eqb (getD s (at + 2) 0) c))
 
-  module _ (newest : ℕ) where
-    pub head-short : length s < 3 → Not 1 0 ≡ shownNumber (headOf (a ∷ b ∷ c ∷ []) newest s)
-    unfolding headOf markOf shownNumber
-    head-short h = simp (lt-leb _ _ h)
+  pub mark-short : length s < at + 3 → Refused 1 at ≡ verdictOf (markAt (a ∷ b ∷ c ∷ []) s at)
+  unfolding markAt verdictOf
+  mark-short h = simp (lt-leb _ _ h)
 
-    module _ (long : 3 ≤ length s) (m : Bool) (e : m ≡ marked (a ∷ b ∷ c ∷ []) s 0) where
-      pub head-wrong : m ≡ false → Not 2 0 ≡ shownNumber (headOf (a ∷ b ∷ c ∷ []) newest s)
-      unfolding headOf markOf shownNumber
-      head-wrong h = simp (le-leb _ _ long, ← e, h)
+  module _ (inside : at < length s) (room : 3 ≤ length s - at) (m : Bool) (e : m ≡ marked (a ∷ b ∷ c ∷ []) s at) where
+    long : at + 3 ≤ length s
+    long = omega (arith, inside, room)
 
-      pub head-version : (r : NumberRead) → m ≡ true → r ≡ shownNumber (versionAt newest s 3) → r ≡ shownNumber (headOf (a ∷ b ∷ c ∷ []) newest s)
-      unfolding headOf markOf
-      head-version r h k = k ∙ simp (le-leb _ _ long, ← e, h)
+    pub mark-wrong : m ≡ false → Refused 2 at ≡ verdictOf (markAt (a ∷ b ∷ c ∷ []) s at)
+    unfolding markAt verdictOf
+    mark-wrong h = simp (le-leb _ _ long, ← e, h)
+
+    pub mark-right : m ≡ true → Taken ≡ verdictOf (markAt (a ∷ b ∷ c ∷ []) s at)
+    unfolding markAt verdictOf
+    mark-right h = simp (le-leb _ _ long, ← e, h)
+
+-- ---- the version, and what is made of both answers
+
+module _ (newest : ℕ) (r : NumberRead) where
+  pub version-refused : (n p : ℕ) → r ≡ Not n p → r ≡ versionBy newest r
+  unfolding versionBy
+  version-refused n p g = rw g refl
+
+  pub version-no : (v p : ℕ) → r ≡ Is v p → between 1 newest v ≡ false → Not 3 3 ≡ versionBy newest r
+  unfolding versionBy
+  version-no v p g h = sym (rw (g, h) refl)
+
+  pub version-yes : (v p : ℕ) → r ≡ Is v p → between 1 newest v ≡ true → Is v p ≡ versionBy newest r
+  unfolding versionBy
+  version-yes v p g h = sym (rw (g, h) refl)
+
+  pub head-refused : (m : Verdict) (n p : ℕ) → m ≡ Refused n p → Not n p ≡ headBy m newest r
+  unfolding headBy
+  head-refused m n p e = sym (rw e refl)
+
+  pub head-taken : (m : Verdict) (x : NumberRead) → m ≡ Taken → x ≡ versionBy newest r → x ≡ headBy m newest r
+  unfolding headBy
+  head-taken m x e h = h ∙ sym (rw e refl)
+
+-- what the reader answers of the mark and of the version behind it makes the head
+module _ (a b c newest : ℕ) (s : List ℕ) where
+  by-version : (o : Outcome ℕ) → versionBy newest (shownNumber o) ≡ shownNumber (next o (λ v p. pick (between 1 newest v) (good v p) (bad 3 3)))
+  unfolding versionBy shownNumber
+  by-version (good v p) = by-test (between 1 newest v)
+    where
+      by-test : (t : Bool) → pick t (Is v p) (Not 3 3) ≡ shownNumber (pick t (good v p) (bad 3 3))
+      by-test true = refl
+      by-test false = refl
+  by-version (bad n p) = refl
+
+  by-mark : (long stand : Bool)
+      → headBy (verdictOf (pick long (pick stand (good (a ∷ b ∷ c ∷ []) 3) (bad 2 0)) (bad 1 0))) newest (shownNumber (numberAt 2 s 3))
+      ≡ shownNumber (next (pick long (pick stand (good (a ∷ b ∷ c ∷ []) 3) (bad 2 0)) (bad 1 0)) (λ _ p. versionAt newest s p))
+  unfolding headBy verdictOf versionAt shownNumber
+  by-mark true true = by-version (numberAt 2 s 3)
+  by-mark true false = refl
+  by-mark false stand = refl
+
+  pub head-read : (m : Verdict) (v r : NumberRead) → m ≡ verdictOf (markAt (a ∷ b ∷ c ∷ []) s 0) → v ≡ shownNumber (numberAt 2 s 3)
+      → r ≡ headBy m newest v → r ≡ shownNumber (headOf (a ∷ b ∷ c ∷ []) newest s)
+  unfolding headOf markOf markAt
+  head-read m v r em ev er = er ∙ rw (em, ev) (by-mark (leb 3 (length s)) (marked (a ∷ b ∷ c ∷ []) s 0))
 
 -- ---- a version that was read is one that is taken
 

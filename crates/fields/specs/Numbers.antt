@@ -11,6 +11,8 @@ use Rattle.ground.specs.Outcome.{Outcome, next}
 use Rattle.ground.specs.Outcome.Outcome.{good, bad}
 use Rattle.ground.specs.Bytes.{littleEnd}
 use Rattle.fields.specs.Refusals.{endsInside, wrongMark, wrongVersion, beyondLimit}
+use Rattle.ground.specs.declared.Verdict.{Verdict}
+use Rattle.ground.specs.declared.Verdict.the-variants.{Taken, Refused}
 use Rattle.fields.specs.declared.numbers.Width.{Width}
 use Rattle.fields.specs.declared.numbers.Width.the-variants.{One, Two, Four}
 use Rattle.fields.specs.declared.numbers.NumberRead.{NumberRead}
@@ -56,6 +58,13 @@ markOf letters s =
     (pick (marked letters s 0) (good letters (length letters)) (bad wrongMark 0))
     (bad endsInside 0)
 
+-- the same of a mark at a position
+unfoldable pub markAt : List ℕ → List ℕ → ℕ → Outcome (List ℕ)
+markAt letters s at =
+    pick (leb (at + length letters) (length s))
+    (pick (marked letters s at) (good letters (at + length letters)) (bad wrongMark at))
+    (bad endsInside at)
+
 -- a 16-bit version from 1 to the newest that is taken
 unfoldable pub versionAt : ℕ → List ℕ → ℕ → Outcome ℕ
 versionAt newest s at = next (numberAt 2 s at) (λ v p. pick (between 1 newest v) (good v p) (bad wrongVersion at))
@@ -68,3 +77,12 @@ headOf letters newest s = next (markOf letters s) (λ _ p. versionAt newest s p)
 unfoldable pub shownNumber : Outcome ℕ → NumberRead
 shownNumber (good v p) = Is v p
 shownNumber (bad n p) = Not n p
+
+-- what is made of the answers of a reader at the front of a paper: of the version behind the mark, and of both
+unfoldable pub versionBy : ℕ → NumberRead → NumberRead
+versionBy newest (Is v p) = pick (between 1 newest v) (Is v p) (Not wrongVersion 3)
+versionBy newest (Not n p) = Not n p
+
+unfoldable pub headBy : Verdict → ℕ → NumberRead → NumberRead
+headBy Taken newest version = versionBy newest version
+headBy (Refused n p) newest version = Not n p

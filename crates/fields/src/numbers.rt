@@ -1,20 +1,22 @@
 // Numbers at a position of a paper, little end first, and the mark and version at its front.
 use crate::reader::Reader;
 use crate::refusals;
+use ground::Verdict;
 ghost use mathlib.Core.Path.{_≡_};
 ghost use mathlib.Core.List.{_∷_, []};
-ghost use Prim.Native.Nat.{_≤_, _<_};
-ghost use lib.ListN.{length};
 ghost use Rattle.fields.specs.Numbers.{
   bytesWide,
   numberAt,
   numberIn,
   numberBelow,
-  marked,
-  versionAt,
+  versionBy,
+  headBy,
   headOf,
   shownNumber,
 };
+
+// Where the version starts: behind the three letters of the mark.
+const BEHIND_MARK: usize = 3;
 
 // How many bytes a number has.
 pub enum Width {
@@ -86,63 +88,50 @@ pub fn number_below(s: &[u8], at: usize, width: Width, limit: u32) -> NumberRead
     }
 }
 
-// A version from 1 to the newest that is taken.
-fn version_at(s: &[u8], at: usize, newest: u32) -> NumberRead
-    ensures { λ r. ⌜ r ≡ shownNumber (versionAt newest (now (s .entry)) at) ⌝ }
+// A version from 1 to the newest that is taken, where one was read.
+fn version_by(newest: u32, version: NumberRead) -> NumberRead
+    ensures { λ r. ⌜ r ≡ versionBy newest version ⌝ }
 {
-    let read = number_at(s, at, Width::Two);
-    match read {
+    match version {
         NumberRead::Not {
             number: _,
             position: _,
-        } => read,
+        } => version,
         NumberRead::Is(value, _) => {
             if value < 1 {
                 return NumberRead::Not {
                     number: refusals::WRONG_VERSION,
-                    position: at,
+                    position: BEHIND_MARK,
                 };
             }
             if newest < value {
                 return NumberRead::Not {
                     number: refusals::WRONG_VERSION,
-                    position: at,
+                    position: BEHIND_MARK,
                 };
             }
-            read
+            version
         }
     }
 }
 
-// The three letters of a mark at the front of a paper.
-fn is_marked(s: &[u8], a: u8, b: u8, c: u8) -> bool
-    requires { ⌜ 3 ≤ length (now s) ⌝ }
-    ensures { λ r. ⌜ r ≡ marked (a ∷ b ∷ c ∷ []) (now (s .entry)) 0 ⌝ }
+// The mark first, then the version.
+fn head_by(mark: Verdict, newest: u32, version: NumberRead) -> NumberRead
+    ensures { λ r. ⌜ r ≡ headBy mark newest version ⌝ }
 {
-    if s[0] != a {
-        return false;
+    match mark {
+        Verdict::Refused { number, position } => NumberRead::Not { number, position },
+        Verdict::Taken => version_by(newest, version),
     }
-    if s[1] != b {
-        return false;
-    }
-    s[2] == c
 }
 
-// The mark, and the version: its number and the position past it.
+// The mark, and the version: its number and the position past it. One reader looks at the mark, is moved past it, and reads the
+// version.
 pub fn read_head(s: &[u8], a: u8, b: u8, c: u8, newest: u32) -> NumberRead
     ensures { λ r. ⌜ r ≡ shownNumber (headOf (a ∷ b ∷ c ∷ []) newest (now (s .entry))) ⌝ }
 {
-    if s.len() < 3 {
-        return NumberRead::Not {
-            number: refusals::ENDS_INSIDE,
-            position: 0,
-        };
-    }
-    if !is_marked(s, a, b, c) {
-        return NumberRead::Not {
-            number: refusals::WRONG_MARK,
-            position: 0,
-        };
-    }
-    version_at(s, 3, newest)
+    let front = Reader { bytes: s, at: 0 };
+    let mark = crate::reader::mark(front, a, b, c);
+    let version = crate::reader::number(crate::reader::moved(front, BEHIND_MARK), Width::Two);
+    head_by(mark, newest, version)
 }

@@ -3,9 +3,13 @@
 use crate::numbers::NumberRead;
 use crate::numbers::Width;
 use crate::refusals;
+use ground::Verdict;
 ghost use mathlib.Core.Path.{_≡_};
-ghost use Prim.Native.Nat.{_<_};
-ghost use Rattle.fields.specs.Numbers.{bytesWide, numberAt, shownNumber};
+ghost use mathlib.Core.List.{_∷_, []};
+ghost use Prim.Native.Nat.{_+_, _≤_, _<_};
+ghost use lib.ListN.{length};
+ghost use Rattle.ground.specs.Outcome.{verdictOf};
+ghost use Rattle.fields.specs.Numbers.{bytesWide, numberAt, marked, markAt, shownNumber};
 
 // "A small reader struct holding the paper's bytes and a position."
 pub struct Reader<'a> {
@@ -86,4 +90,61 @@ pub fn number<'a>(reader: Reader<'a>, width: Width) -> NumberRead
     ensures { λ r. ⌜ r ≡ shownNumber (numberAt (bytesWide width) (now (reader .entry .bytes)) (reader .entry .at)) ⌝ }
 {
     number_from(reader.bytes, reader.at, width)
+}
+
+// The three letters of a mark at a position.
+fn is_marked(s: &[u8], at: usize, a: u8, b: u8, c: u8) -> bool
+    requires { ⌜ at + 3 ≤ length (now s) ⌝ }
+    ensures { λ r. ⌜ r ≡ marked (a ∷ b ∷ c ∷ []) (now (s .entry)) at ⌝ }
+{
+    if s[at] != a {
+        return false;
+    }
+    if s[at + 1] != b {
+        return false;
+    }
+    s[at + 2] == c
+}
+
+// A mark is one field: it must be whole before it is compared.
+fn mark_from(s: &[u8], at: usize, a: u8, b: u8, c: u8) -> Verdict
+    ensures { λ r. ⌜ r ≡ verdictOf (markAt (a ∷ b ∷ c ∷ []) (now (s .entry)) at) ⌝ }
+{
+    if s.len() <= at {
+        return Verdict::Refused {
+            number: refusals::ENDS_INSIDE,
+            position: at,
+        };
+    }
+    if s.len() - at < 3 {
+        return Verdict::Refused {
+            number: refusals::ENDS_INSIDE,
+            position: at,
+        };
+    }
+    if is_marked(s, at, a, b, c) {
+        Verdict::Taken
+    } else {
+        Verdict::Refused {
+            number: refusals::WRONG_MARK,
+            position: at,
+        }
+    }
+}
+
+// Whether a mark stands at a reader's position: the reader is taken apart.
+pub fn mark<'a>(reader: Reader<'a>, a: u8, b: u8, c: u8) -> Verdict
+    ensures { λ r. ⌜ r ≡ verdictOf (markAt (a ∷ b ∷ c ∷ []) (now (reader .entry .bytes)) (reader .entry .at)) ⌝ }
+{
+    mark_from(reader.bytes, reader.at, a, b, c)
+}
+
+// The reader with another position: past what was read.
+pub fn moved<'a>(reader: Reader<'a>, at: usize) -> Reader<'a>
+    ensures { λ r. ⌜ (r .bytes ≡ reader .entry .bytes) × (r .at ≡ at) ⌝ }
+{
+    Reader {
+        bytes: reader.bytes,
+        at,
+    }
 }

@@ -1,4 +1,4 @@
--- `fields::number_at` meets its contract: a walk of its MIR, by hand. A reader is made of the slice and the position, in a local, and passed to `number`.
+-- `fields::numbers::number_at` meets its contract: a walk of its MIR, by hand. A reader is made of the slice and the position, in a local, and passed to `number`.
 -- A `&[u8]` is Copy, so what it owns is had twice: once for s at exit, and once inside the reader, which goes to the callee.
 -- Assumes nothing.
 use mathlib.Core.Path.{_≡_, refl}

@@ -1,4 +1,4 @@
--- `fields::number` meets its contract: a walk of its MIR, by hand. The reader is taken apart, and `number_from` is called on the slice and the numbers.
+-- `fields::reader::number` meets its contract: a walk of its MIR, by hand. The reader is taken apart, and `number_from` is called on the slice and the numbers.
 -- The reader is Copy: what it owns is had twice, one copy is kept whole for the exit, and of the other what the slice owns goes to the callee.
 -- Assumes nothing.
 use mathlib.Core.Path.{_≡_, refl}
