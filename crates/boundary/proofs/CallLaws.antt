@@ -6,6 +6,7 @@ use Prim.Native.Nat.{ℕ}
 use Rattle.ground.specs.Outcome.{Outcome, next, verdictOf, nextOf}
 use Rattle.ground.specs.Outcome.Outcome.{good, bad}
 use Rattle.semijoin.specs.Marks.{marksAfter}
+use Rattle.semijoin.proofs.CallLaws.{call-promise}
 use Rattle.answerer.specs.Answer.{answeredOf, answeredIn}
 use Rattle.station.specs.Calls.{leaves}
 use Rattle.station.specs.Making.{shownMade, madeIn}
@@ -37,8 +38,7 @@ unfolding leaves
 leaves-same made before o m u found = rw found refl
 
 pub marks-same : (marks : List ℕ) (o : Outcome (List ℕ)) (m u : ℕ) → o ≡ bad m u → marks ≡ marksAfter marks o
-unfolding marksAfter
-marks-same marks o m u found = rw found refl
+marks-same marks o m u found = rw found (sym (call-promise .marks-kept marks m u))
 
 pub answered-same : (out : List ℕ) (o : Outcome (List ℕ)) (m u : ℕ) → o ≡ bad m u → out ≡ answeredIn out o
 unfolding answeredIn

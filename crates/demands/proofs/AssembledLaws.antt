@@ -22,8 +22,8 @@ use Rattle.envelopes.specs.Rules.{Within}
 use Rattle.paths.specs.Meaning.{Row, wordIn, answerWords}
 use Rattle.papers.specs.declared.programs.Program.{Program}
 use Rattle.papers.specs.declared.checks.Papers.{Papers}
-use Rattle.tables.specs.Rows.{keptRows}
-use Rattle.semijoin.specs.Promise.{SameRows, Covers}
+use Rattle.tables.specs.Rows.{SameRows, keptRows}
+use Rattle.semijoin.specs.Promise.{Covers}
 use Rattle.ends.specs.Ends.{hasArrived}
 use Rattle.ends.specs.Messages.{rowMessage, rowsOf}
 use Rattle.station.specs.Making.{sentRows}

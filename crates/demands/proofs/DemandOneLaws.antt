@@ -1,5 +1,5 @@
 -- Demand 1 holds: each call's refusals have the numbers that 01 lists for it, and leave everything as it was.
-use mathlib.Core.Path.{_≡_, refl}
+use mathlib.Core.Path.{_≡_, refl, ap, _∙_}
 use mathlib.Core.Bool.{Bool, false, not}
 use mathlib.Core.List.{List, [], _∷_, _++_, map, List·Memᴰ, List·Memᴰ·head, List·Memᴰ·tail, Memᴰ·append-left, Memᴰ·append-right}
 use mathlib.Core.Logic.{_⊎_, inl, inr}
@@ -25,7 +25,7 @@ use Rattle.papers.specs.declared.programs.Program.{Program}
 use Rattle.papers.specs.declared.checks.Papers.{Papers}
 use Rattle.tables.specs.Shape.{shaped}
 use Rattle.semijoin.specs.Marks.{marksAfter}
-use Rattle.semijoin.proofs.CallLaws.{open-number as local-number, reduce-number, run-number}
+use Rattle.semijoin.proofs.CallLaws.{call-promise}
 use Rattle.ends.specs.Ends.{overApplied, soundEnd}
 use Rattle.ends.specs.Messages.{runOf, secondOf, aboutOf, counted}
 use Rattle.ends.specs.declared.messages.About.{About}
@@ -217,8 +217,7 @@ end-number x store out n u h = go (next-bad (soundEnd x) _ n u h)
 -- ---- all calls
 
 marks-stay : (marks : List ℕ) (o : Outcome (List ℕ)) (n u : ℕ) → o ≡ bad n u → marksAfter marks o ≡ marks
-unfolding marksAfter
-marks-stay marks o n u h = rw h
+marks-stay marks o n u h = ap (marksAfter marks) h ∙ call-promise .marks-kept marks n u
 
 -- with the numbers that papers are refused by
 bounded : (e : Envelope) (p : Program) (numbers : List ℕ) (n u : ℕ) → PapersTold e p numbers n u → PapersOr e p numbers n u
@@ -261,15 +260,15 @@ demand-one =
       planning-bytes = λ s n u h. read-number s n u (plan-refused _ n u h);
       estimating = λ e p n u h. estimate-number e p n u (estimate-refused (checkEnvelope e) (checkProgram e p) n u h);
       opening-marks = λ e words here marks n u h. (
-        bounded-envelope e _ n u (only-number (local-number e words here marks n u h)),
+        bounded-envelope e _ n u (only-number (call-promise .open-number e words here marks n u h)),
         marks-stay marks _ n u h,
       );
-      reducing = λ e words values a marks n u h. (reduce-number e a words values marks n u h .0, marks-stay marks _ n u h);
+      reducing = λ e words values a marks n u h. (call-promise .reduce-number e words values a marks n u h .0, marks-stay marks _ n u h);
       opening = λ e p site run words marks n u h. (
         bounded e p _ n u (only-number (open-number site run words marks e p n u h)),
         open-untouched site run words marks e p n u h,
       );
-      in-one-place = λ e p words marks n u h. (bounded e p _ n u (only-number (run-number e p words marks n u h)), marks-stay marks _ n u h);
+      in-one-place = λ e p words marks n u h. (bounded e p _ n u (only-number (call-promise .run-number e p words marks n u h)), marks-stay marks _ n u h);
       making-values = λ x words marks step out n u h. (
         end-or x firstNumbers (notOurs ∷ waiting ∷ tooShort ∷ []) n u (values-number x words marks step (length out) n u h),
         made-untouched out _ n u h,

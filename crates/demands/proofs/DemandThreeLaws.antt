@@ -20,6 +20,7 @@ use Rattle.paths.specs.declared.steps.Step.{Step}
 use Rattle.tables.specs.Offsets.{rowCount}
 use Rattle.semijoin.specs.Local.{openedIn}
 use Rattle.semijoin.specs.Run.{steppedAll, runMarks}
+use Rattle.semijoin.proofs.CallLaws.{call-promise}
 use Rattle.ends.specs.Reducing.{stepCount}
 use Rattle.demands.specs.Link.{Crew, Allowed, State, start, Event, after, afterAll, Follows}
 use Rattle.demands.specs.DemandThree.{runAfter, Lower, Upper, answering, DemandThree, EveryHistory}
@@ -44,11 +45,12 @@ same-answer c w =
 
 run-whole : (c : Crew) → runAfter c (stepCount (c .papers .program))
     ≡ runMarks (c .papers .envelope) (c .papers .program) (c .whole) (replicate (rowCount (c .papers .envelope) (c .whole)) 0)
-unfolding runAfter runMarks
+unfolding runAfter
 run-whole c =
     let e = c .papers .envelope in
     ap (λ (l : List Step). steppedAll e (c .whole) l (openedIn e (c .whole) (λ _. true) (replicate (rowCount e (c .whole)) 0)))
     (take-all (stepCount (c .papers .program)) (stepsOf (c .papers .program)) (omega arith))
+    ∙ sym (call-promise .run-is e (c .papers .program) (c .whole) (replicate (rowCount e (c .whole)) 0))
 
 -- what holds of every state that the crew comes to
 record Always (c : Crew) (w : Allowed c) (s : State) : Type 0 where

@@ -1,5 +1,5 @@
 -- Demand 2 holds: each part by the law of the crate that has it.
-use mathlib.Core.Path.{_≡_, refl, ap}
+use mathlib.Core.Path.{_≡_, refl, ap, _∙_}
 use mathlib.Core.Bool.{true}
 use mathlib.Core.List.{List}
 use mathlib.Core.Logic.{_↔_}
@@ -18,8 +18,7 @@ use Rattle.paths.specs.Meaning.{answerOn, answerRows, answerWords}
 use Rattle.paths.specs.declared.steps.Step.{Step}
 use Rattle.paths.proofs.PathLaws.{on-path}
 use Rattle.paths.proofs.StepLaws.{legal-step, step-legal, legal-member}
-use Rattle.papers.specs.Programs.{stepsOf, Acceptable}
-use Rattle.papers.specs.Fits.{ProgramFits}
+use Rattle.papers.specs.Programs.{stepsOf}
 use Rattle.papers.specs.declared.programs.Program.{Program}
 use Rattle.papers.proofs.ExactPrograms.{read-exact}
 use Rattle.papers.proofs.ExactChecks.{check-exact}
@@ -27,14 +26,12 @@ use Rattle.estimates.specs.Costs.{plainCosts}
 use Rattle.estimates.specs.Estimate.{estimated, estimateOf}
 use Rattle.estimates.proofs.EstimateLaws.{estimated-lines, estimated-total}
 use Rattle.planner.proofs.PromiseLaws.{plan-checked, plan-read}
-use Rattle.tables.specs.Offsets.{rowCount}
-use Rattle.tables.specs.Rows.{isKept}
+use Rattle.tables.specs.Rows.{isKept, wordOf, keptAt}
 use Rattle.tables.specs.Shape.{shaped}
 use Rattle.tables.specs.Values.{valuesOf}
-use Rattle.semijoin.specs.Run.{stepped, runMarks, runOutcome}
-use Rattle.semijoin.specs.Promise.{keptAt}
+use Rattle.semijoin.specs.Run.{stepped}
 use Rattle.semijoin.proofs.PromiseLaws.{promise}
-use Rattle.semijoin.proofs.RunLaws.{step-exact, step-answer, run-answer, run-exact}
+use Rattle.semijoin.proofs.CallLaws.{call-promise}
 use Rattle.answerer.specs.Answer.{answerOutcome}
 use Rattle.answerer.proofs.AnswerLaws.{answer-exact}
 use Rattle.demands.specs.DemandTwo.{OnPath, EstimateKept, DemandTwo}
@@ -67,19 +64,7 @@ estimate-holds : (f : Envelope) (g : Program) (u v : ℕ) → EstimateKept f g (
 unfolding estimateOf
 estimate-holds f g u v = estimate-kept f g
 
--- ---- the run and the answer, where they are taken
-
-run-taken : (e : Envelope) → Fits e → (p : Program) → ProgramFits p → (words marks after : List ℕ) (u : ℕ)
-    → (runOutcome e p words marks ≡ good after u)
-    ↔ (Within e × Acceptable e p × (shaped e words ≡ true) × (rowCount e words ≤ length marks) × (after ≡ runMarks e p words marks) × (u ≡ 0))
-run-taken e fits p small words marks after u = (
-  λ h.
-      let (r, is, end) = run-exact e p words marks fits small after u .0 h in
-      (r .within, r .acceptable, r .shape, r .room, is, end),
-  λ (within, acceptable, shape, room, is, end).
-      run-exact e p words marks fits small after u .1
-      (record { within = within; acceptable = acceptable; shape = shape; room = room }, is, end),
-)
+-- ---- the answer, where it is taken
 
 answer-taken : (e : Envelope) → Fits e → (words out w : List ℕ) (u : ℕ)
     → (answerOutcome e words out ≡ good w u)
@@ -92,16 +77,24 @@ answer-taken e fits words out w u = (
       answer-exact e words out fits w u .1 (record { within = within; shape = shape; room = room }, is, end),
 )
 
+-- ---- a step
+
+step-exact : (e : Envelope) (words marks : List ℕ) (s : Step) (i : ℕ)
+    → (keptAt e words (stepped e words s marks) (s .left .relation) i ≡ true)
+    ↔ ((keptAt e words marks (s .left .relation) i ≡ true)
+    × ((j : ℕ) × (keptAt e words marks (s .right .relation) j ≡ true) × (wordOf e words (s .right) j ≡ wordOf e words (s .left) i)))
+step-exact e words marks s i = rw (call-promise .step-is e words s marks) (promise e .keeps-exactly words marks words marks (s .left) (s .right) i)
+
 step-stays : (e : Envelope) (words marks : List ℕ) (s : Step) (r i : ℕ) → (r ≡ s .left .relation → ⊥)
     → keptAt e words (stepped e words s marks) r i ≡ keptAt e words marks r i
-unfolding stepped
 step-stays e words marks s r i differ =
-    ap (λ (l : List ℕ). isKept (getD l i 0)) (promise e .others-stay words (valuesOf e words marks (s .right)) marks (s .left) r differ)
+    ap (λ (l : List ℕ). keptAt e words l r i) (call-promise .step-is e words s marks)
+    ∙ ap (λ (l : List ℕ). isKept (getD l i 0)) (promise e .others-stay words (valuesOf e words marks (s .right)) marks (s .left) r differ)
 
 -- ---- all of it
 
 pub demand-two : DemandTwo
-unfolding runMarks answerRows answerOn
+unfolding answerRows answerOn
 demand-two =
     record {
       legal-exact = λ e s. (legal-path e s, path-legal e s);
@@ -116,13 +109,13 @@ demand-two =
       estimate = λ e f p g u v h k. rw (h, k) (estimate-holds f g u v);
       plan-struct = plan-checked;
       plan-bytes = plan-read;
-      run = run-taken;
-      run-folds = λ e p words marks. refl;
+      run = λ e fits p small words marks after u. call-promise .run-exact e p words marks fits small after u;
+      run-folds = λ e p words marks. call-promise .run-is e p words marks;
       local = λ e words marks fits r i h. promise e .opens words marks (λ _. true) fits r i h;
-      step = λ e words marks s i. step-exact e words s marks i;
+      step = step-exact;
       step-others = step-stays;
-      step-answer = λ e words marks s l. step-answer e words s marks (path-legal e s l);
-      run-answer = λ e p words marks h fits. run-answer e words p marks (h .steps) fits;
+      step-answer = λ e words marks s l. call-promise .step-answer e words s marks (path-legal e s l);
+      run-answer = λ e p words marks h fits. call-promise .run-answer e p words marks (h .steps) fits;
       answer-rows = λ e words. refl;
       answer = answer-taken;
     }

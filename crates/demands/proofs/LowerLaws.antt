@@ -15,10 +15,11 @@ use Rattle.paths.specs.Meaning.{wordIn}
 use Rattle.papers.specs.declared.programs.Program.{Program}
 use Rattle.paths.proofs.StepLaws.{legal-step}
 use Rattle.tables.specs.Offsets.{countIn}
-use Rattle.tables.specs.Rows.{isKept}
+use Rattle.tables.specs.Rows.{isKept, rowOf, keptAt}
 use Rattle.semijoin.specs.Marks.{reducedBy}
 use Rattle.tables.specs.Values.{risingValues}
-use Rattle.semijoin.specs.Promise.{rowOf, keptAt, Needed, Covers, Holds}
+use Rattle.semijoin.specs.Promise.{Needed, Covers, Holds}
+use Rattle.tables.proofs.ValueLaws.{same-values}
 use Rattle.semijoin.proofs.PromiseLaws.{promise}
 use Rattle.ends.specs.Reducing.{stepCount, stepOf}
 use Rattle.ends.specs.Messages.{secondOf, bodyOf, aboutOf}
@@ -71,7 +72,7 @@ module _ (c : Crew) (w : Allowed c) where
         let there : isAt e site (b .relation) ≡ true = rw (s .place) at (made-by .here) in
         let whole : Holds e (c .whole) (risingValues e (c .tables site) (x .marks) b) b =
         λ row needed.
-        promise e .same-values (c .tables site) (x .marks) b (wordIn row (b .column))
+        same-values e (c .tables site) (x .marks) b (wordIn row (b .column))
         ∙ promise e .needed-values (c .whole) (c .tables site) (x .marks) b (legal-step e (stepOf p n) (step-legal c w n (made-by .exists)) .right)
         (w .parts site (b .relation) there) (low (b .relation) there) row needed in
         values n (risingValues e (c .tables site) (x .marks) b) (made-by .exists) (rw (s .run) at (made-by .is)) whole

@@ -25,7 +25,7 @@ use Rattle.paths.proofs.StepLaws.{legal-step}
 use Rattle.semijoin.specs.Marks.{reducedBy}
 use Rattle.tables.specs.Values.{risingValues}
 use Rattle.tables.proofs.ShapeLaws.{place-relation, shaped-shape}
-use Rattle.semijoin.proofs.PromiseLaws.{promise}
+use Rattle.tables.proofs.ValueLaws.{no-more-values}
 use Rattle.ends.specs.Reducing.{stepCount, stepOf, placeOf}
 use Rattle.ends.specs.Ends.{appliedOf, hasArrived}
 use Rattle.ends.specs.Messages.{valueMessage, bodyOf, aboutOf}
@@ -130,7 +130,7 @@ module _ (c : Crew) (w : Allowed c) where
       unfolding valueMessage
       sent-few =
           let few-rows = shaped-shape e (c .tables sender) (w .shapes sender (site-few b right-there)) .few b in
-          omega (arith, wide, promise e .no-more (c .tables sender) (from .marks) (stepOf p n .right), few-rows)
+          omega (arith, wide, no-more-values e (c .tables sender) (from .marks) (stepOf p n .right), few-rows)
 
       sent-three : 3 ≤ length sent
       unfolding valueMessage

@@ -20,9 +20,8 @@ use Rattle.contents.specs.declared.envelope.Envelope.{Envelope}
 use Rattle.papers.specs.declared.programs.Program.{Program}
 use Rattle.tables.specs.Offsets.{countIn}
 use Rattle.tables.proofs.ShapeLaws.{shaped-shape}
-use Rattle.tables.specs.Rows.{keptRows}
-use Rattle.semijoin.specs.Promise.{rowOf, keptAt, SameRows}
-use Rattle.semijoin.proofs.PromiseLaws.{promise}
+use Rattle.tables.specs.Rows.{rowOf, keptAt, SameRows, keptRows}
+use Rattle.tables.proofs.RowLaws.{same-counts, kept-are}
 use Rattle.ends.specs.Reducing.{stepCount}
 use Rattle.ends.specs.Ends.{hasArrived, startOf}
 use Rattle.ends.specs.Messages.{runOf, secondOf, aboutOf, counted}
@@ -61,10 +60,10 @@ module _ (c : Crew) (w : Allowed c) where
       omega (
         arith,
         length-map (keptRows e words marks k) (sentOf e k),
-        ap length (promise e .kept-are words marks k) ∙ length-map (filter (keptAt e words marks k) (below (countIn e words k))) (rowOf e words k),
+        ap length (kept-are e words marks k) ∙ length-map (filter (keptAt e words marks k) (below (countIn e words k))) (rowOf e words k),
         filter-length (keptAt e words marks k) (below (countIn e words k)),
         below-length (countIn e words k),
-        promise e .same-counts words (c .whole) k same,
+        same-counts e words (c .whole) k same,
         shaped-shape e (c .whole) (w .sizes) .few k,
       )
 

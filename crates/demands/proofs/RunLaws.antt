@@ -1,6 +1,6 @@
 -- The one-place run step by step: what a step does to its own relation's marks and to the others', and that a relation's marks
 -- stay as they are from one of its steps to the next.
-use mathlib.Core.Path.{_≡_, refl, sym, ap, _∙_}
+use mathlib.Core.Path.{_≡_, sym, ap, _∙_}
 use mathlib.Core.Bool.{true}
 use mathlib.Core.List.{List, [], _∷_, _++_}
 use Prim.Native.Nat.{ℕ, zero, suc, _+_, _-_, _≤_, _<_, min}
@@ -22,6 +22,7 @@ use Rattle.semijoin.specs.Marks.{reducedBy}
 use Rattle.tables.specs.Values.{valuesOf}
 use Rattle.semijoin.specs.Run.{stepped, steppedAll}
 use Rattle.semijoin.proofs.PromiseLaws.{promise}
+use Rattle.semijoin.proofs.CallLaws.{call-promise}
 use Rattle.ends.specs.Reducing.{stepCount, stepOf, reduces, reducing, placeOf}
 use Rattle.demands.specs.Link.{Crew}
 use Rattle.demands.specs.DemandThree.{runAfter}
@@ -95,8 +96,19 @@ module _ (p : Program) (r : ℕ) where
 
 steps-append : (e : Envelope) (words : List ℕ) (a b : List Step) (marks : List ℕ)
     → steppedAll e words (a ++ b) marks ≡ steppedAll e words b (steppedAll e words a marks)
-steps-append e words [] b marks = refl
-steps-append e words (s ∷ a) b marks = steps-append e words a b (stepped e words s marks)
+steps-append e words [] b marks = ap (steppedAll e words b) (sym (call-promise .steps-none e words marks))
+steps-append e words (s ∷ a) b marks =
+    call-promise .steps-first e words s (a ++ b) marks
+    ∙ steps-append e words a b (stepped e words s marks)
+    ∙ ap (steppedAll e words b) (sym (call-promise .steps-first e words s a marks))
+
+-- one step alone
+steps-one : (e : Envelope) (words : List ℕ) (s : Step) (marks : List ℕ)
+    → steppedAll e words (s ∷ []) marks ≡ reducedBy e words (valuesOf e words marks (s .right)) (s .left) marks
+steps-one e words s marks =
+    call-promise .steps-first e words s [] marks
+    ∙ call-promise .steps-none e words (stepped e words s marks)
+    ∙ call-promise .step-is e words s marks
 
 module _ (c : Crew) where
   abbrev e : Envelope
@@ -107,15 +119,16 @@ module _ (c : Crew) where
 
   pub run-none : runAfter c 0 ≡ openedIn e (c .whole) (λ _. true) (replicate (rowCount e (c .whole)) 0)
   unfolding runAfter
-  run-none = refl
+  run-none = call-promise .steps-none e (c .whole) (openedIn e (c .whole) (λ _. true) (replicate (rowCount e (c .whole)) 0))
 
   pub run-step : (n : ℕ) → n < stepCount p
       → runAfter c (suc n) ≡ reducedBy e (c .whole) (valuesOf e (c .whole) (runAfter c n) (stepOf p n .right)) (stepOf p n .left) (runAfter c n)
-  unfolding runAfter stepOf stepped
+  unfolding runAfter stepOf
   run-step n h =
       let first = openedIn e (c .whole) (λ _. true) (replicate (rowCount e (c .whole)) 0) in
       ap (λ (l : List Step). steppedAll e (c .whole) l first) (take-suc (stepsOf p) n noStep h)
       ∙ steps-append e (c .whole) (take n (stepsOf p)) (stepOf p n ∷ []) first
+      ∙ steps-one e (c .whole) (stepOf p n) (runAfter c n)
 
   run-past : (n : ℕ) → stepCount p ≤ n → runAfter c (suc n) ≡ runAfter c n
   unfolding runAfter

@@ -18,10 +18,12 @@ use Rattle.paths.specs.Meaning.{Table}
 use Rattle.papers.specs.declared.programs.Program.{Program}
 use Rattle.tables.specs.Offsets.{rowCount, countIn}
 use Rattle.semijoin.specs.Local.{passes, openedIn}
-use Rattle.tables.specs.Rows.{isKept}
+use Rattle.tables.specs.Rows.{isKept, rowOf, keptAt}
 use Rattle.semijoin.specs.Marks.{reducedBy}
 use Rattle.tables.specs.Values.{valuesOf, risingValues}
-use Rattle.semijoin.specs.Promise.{rowOf, keptAt, FewerRows, FewerValues}
+use Rattle.semijoin.specs.Promise.{FewerRows, FewerValues}
+use Rattle.tables.proofs.RowLaws.{kept-inside, same-counts}
+use Rattle.tables.proofs.ValueLaws.{same-values}
 use Rattle.semijoin.proofs.PromiseLaws.{promise}
 use Rattle.ends.specs.Reducing.{stepCount, stepOf, placeOf}
 use Rattle.ends.specs.Ends.{appliedOf, startOf}
@@ -67,12 +69,12 @@ module _ (c : Crew) (w : Allowed c) where
   opened-fewer : (site r : ℕ) → site ≤ 7 → isAt e site r ≡ true
       → FewerRows e r (c .tables site) (openedIn e (c .tables site) (isAt e site) (c .lent site)) (c .whole) (runAfter c 0)
   opened-fewer site r small here i t =
-      let there : i < countIn e (c .tables site) r = promise e .kept-inside (c .tables site) (openedIn e (c .tables site) (isAt e site) (c .lent site)) r i t in
+      let there : i < countIn e (c .tables site) r = kept-inside e (c .tables site) (openedIn e (c .tables site) (isAt e site) (c .lent site)) r i t in
       let same = w .parts site r here in
       let passed : passes e r (rowOf e (c .tables site) r i) ≡ true =
       and-right (isAt e site r) _ (sym (promise e .opens (c .tables site) (c .lent site) (isAt e site) (w .marks site small) r i there) ∙ t) in
       let also : passes e r (rowOf e (c .whole) r i) ≡ true = rw (ap (λ (rows : Table). getD rows i []) same) at passed in
-      let inside : i < countIn e (c .whole) r = omega (arith, there, promise e .same-counts (c .tables site) (c .whole) r same) in
+      let inside : i < countIn e (c .whole) r = omega (arith, there, same-counts e (c .tables site) (c .whole) r same) in
       let z : ℕ = 0 in
       rw (run-none c)
       (promise e .opens (c .whole) (replicate (rowCount e (c .whole)) 0) (λ _. true) (omega (arith, length-replicate (rowCount e (c .whole)) z)) r i inside ∙ also)
@@ -100,8 +102,8 @@ module _ (c : Crew) (w : Allowed c) where
         let there : isAt e site (b .relation) ≡ true = rw (s .place) at (made-by .here) in
         let fewer : FewerValues (risingValues e (c .tables site) (x .marks) b) (valuesOf e (c .whole) (runAfter c n) b) =
         λ v t.
-        promise e .fewer-values (c .tables site) (x .marks) (c .whole) (runAfter c n) b (w .parts site (b .relation) there)
-        (up (b .relation) n there (made-by .ready)) v (sym (promise e .same-values (c .tables site) (x .marks) b v) ∙ t) in
+        promise e .fewer .1 (c .tables site) (x .marks) (c .whole) (runAfter c n) b (w .parts site (b .relation) there)
+        (up (b .relation) n there (made-by .ready)) v (sym (same-values e (c .tables site) (x .marks) b v) ∙ t) in
         values n (risingValues e (c .tables site) (x .marks) b) (made-by .exists) (rw (s .run) at (made-by .is)) fewer
 
     upper-rows : (r room : ℕ) → makeRowsOf (x .end) (c .tables site) (x .marks) r room ≡ good m u → UpperMade c m
@@ -144,7 +146,7 @@ module _ (c : Crew) (w : Allowed c) where
         behind l =
             still-kept q (suc n) k i l (omega (arith, h, next, place-own p q n few refl))
             (rw (run-step c n few)
-            (promise e .fewer-rows (c .tables site) (x .marks) (c .whole) (runAfter c n) (bodyOf m)
+            (promise e .fewer .0 (c .tables site) (x .marks) (c .whole) (runAfter c n) (bodyOf m)
             (valuesOf e (c .whole) (runAfter c n) (stepOf p n .right)) (stepOf p n .left) (w .parts site q here)
             (up q n here (omega (arith, next))) fewer i t))
 

@@ -16,7 +16,8 @@ use Rattle.tables.specs.Offsets.{rowCount}
 use Rattle.semijoin.specs.Local.{openedIn}
 use Rattle.tables.specs.Values.{valuesOf}
 use Rattle.semijoin.specs.Run.{steppedAll, runMarks}
-use Rattle.semijoin.specs.Promise.{SameRows, FewerRows, FewerValues, Covers, Holds}
+use Rattle.tables.specs.Rows.{SameRows}
+use Rattle.semijoin.specs.Promise.{FewerRows, FewerValues, Covers, Holds}
 use Rattle.ends.specs.Reducing.{stepCount, stepOf, placeOf}
 use Rattle.ends.specs.Ends.{appliedOf, hasArrived}
 use Rattle.ends.specs.Messages.{valueMessage, rowMessage, secondOf}

@@ -24,7 +24,7 @@ use Rattle.envelopes.specs.Rules.{Within, tidy}
 use Rattle.envelopes.specs.Fits.{Fits}
 use Rattle.paths.specs.Paths.{column, PathBetween, edges}
 use Rattle.paths.specs.Steps.{isPlace, legal, legalSteps}
-use Rattle.paths.specs.Meaning.{Row, meetsAll, targetRow, tablesOf, answerOn, answerRows, answerWords}
+use Rattle.paths.specs.Meaning.{Row, meetsAll, targetRow, tablesOf, answerRows, answerWords}
 use Rattle.paths.specs.declared.steps.Step.{Step}
 use Rattle.papers.specs.Programs.{stepsOf, readProgram, checkProgram, programBytes, Acceptable, tidyProgram}
 use Rattle.papers.specs.Fits.{ProgramFits}
@@ -37,11 +37,10 @@ use Rattle.estimates.specs.declared.lines.Estimate.{Estimate}
 use Rattle.planner.specs.Plan.{planOf}
 use Rattle.planner.specs.Promise.{PlanKept}
 use Rattle.tables.specs.Offsets.{countIn, rowCount}
-use Rattle.tables.specs.Rows.{keptTables}
+use Rattle.tables.specs.Rows.{rowOf, wordOf, keptAt, answerKept}
 use Rattle.tables.specs.Shape.{shaped}
 use Rattle.semijoin.specs.Local.{passes, openedIn}
 use Rattle.semijoin.specs.Run.{stepped, steppedAll, runMarks, runOutcome}
-use Rattle.semijoin.specs.Promise.{rowOf, wordOf, keptAt}
 use Rattle.answerer.specs.Answer.{answerOutcome}
 
 -- "R<A=B]S: R and S different, R.A and S.B on a path": along clauses, either way, from column to column or constant
@@ -57,10 +56,6 @@ pub record EstimateKept (e : Envelope) (p : Program) (x : Estimate) : Type 0 whe
   pub lines : take (x .count) (x .lines) ≡ linesOf plainCosts e (localProfile e) (stepsOf p)
   pub assembly : x .assembly ≡ assemblyAt plainCosts e (afterAll (kindOf plainCosts e) (localProfile e) (stepsOf p)) (p .site)
   pub total : x .total ≡ sum (costsIn (take (x .count) (x .lines))) + x .assembly
-
--- the answer on the rows that marks keep
-abbrev pub answerKept : Envelope → List ℕ → List ℕ → List Row
-answerKept e words marks = answerOn (clausesOf e) (targetsOf e) (keptTables e words marks)
 
 pub record DemandTwo : Type 0 where
   -- legal steps: by the test, and in the list of all

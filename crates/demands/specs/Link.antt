@@ -21,7 +21,7 @@ use Rattle.papers.specs.declared.programs.Program.{Program}
 use Rattle.papers.specs.declared.checks.Papers.{Papers}
 use Rattle.tables.specs.Offsets.{rowCount}
 use Rattle.tables.specs.Shape.{shaped}
-use Rattle.semijoin.specs.Promise.{SameRows}
+use Rattle.tables.specs.Rows.{SameRows}
 use Rattle.station.specs.Calls.{leaves}
 use Rattle.ends.specs.Ends.{Marked, noEnd}
 use Rattle.station.specs.Opening.{openOf, openedMarks}

@@ -17,8 +17,8 @@ use Rattle.contents.specs.Parts.{relationCount, clausesOf, targetsOf}
 use Rattle.contents.specs.declared.envelope.Envelope.{Envelope}
 use Rattle.paths.specs.Meaning.{Row, Table, meetsAll, targetRow, answerOn, answerRows}
 use Rattle.tables.specs.Offsets.{countIn, rowsAt, marksAt}
-use Rattle.tables.specs.Rows.{isKept, keptOf, keptRows}
-use Rattle.semijoin.specs.Promise.{rowOf, keptAt, SameRows, NeededIn, Needed, Covers}
+use Rattle.tables.specs.Rows.{isKept, rowOf, keptAt, SameRows, keptOf, keptRows}
+use Rattle.semijoin.specs.Promise.{NeededIn, Needed, Covers}
 use Rattle.tables.proofs.OffsetLaws.{count-outside, rowsAt-length, tables-are}
 use Rattle.tables.proofs.RowLaws.{kept-test}
 

@@ -1,20 +1,15 @@
--- What the calls on tables and marks give, in the promise's terms: each refusal where it is due, and the effect where none
--- is. The floors above go by these and unfold nothing.
-use mathlib.Core.Path.{_≡_, refl, ap, _∙_}
-use mathlib.Core.Bool.{Bool, true, false, not, _&&_}
-use mathlib.Core.Logic.{_↔_, _⊎_, inl, inr}
+-- The calls and the one-place run keep their promise: each refusal where it is due, and the effect where none is.
+use mathlib.Core.Path.{_≡_, refl, _∙_}
+use mathlib.Core.Bool.{Bool, true, false, not}
+use mathlib.Core.Logic.{_⊎_, inl, inr}
 use mathlib.Core.List.{List, [], _∷_, _++_, List·Memᴰ}
 use Prim.Native.Nat.{ℕ, _+_, _≤_, _<_}
 use lib.ListN.{length}
-use lib.Dec.{leb}
-use borrow.Author.Tests.{leb-true, le-leb}
-use Rattle.ground.specs.Rising.{Rises}
 use Rattle.ground.specs.Outcome.{Outcome, next}
 use Rattle.ground.specs.Outcome.Outcome.{good, bad}
 use Rattle.ground.specs.Refusing.{Test, test, judged}
 use Rattle.ground.proofs.OutcomeLaws.{next-bad}
 use Rattle.ground.proofs.RefusingLaws.{refusal-listed}
-use Rattle.ground.proofs.TestLaws.{and-left, and-right, and-both}
 use Rattle.fields.specs.Refusals.{wrongShape, tooShort, notOurs, notSound}
 use Rattle.envelopes.specs.Envelope.{checkEnvelope}
 use Rattle.envelopes.specs.Rules.{Within}
@@ -22,38 +17,42 @@ use Rattle.entries.specs.declared.places.Place.{Place}
 use Rattle.contents.specs.declared.envelope.Envelope.{Envelope}
 use Rattle.envelopes.proofs.ExactEnvelope.{check-complete}
 use Rattle.paths.specs.Steps.{isPlace}
-use Rattle.papers.specs.Programs.{Acceptable}
+use Rattle.paths.specs.declared.steps.Step.{Step}
+use Rattle.papers.specs.Programs.{stepsOf, Acceptable}
 use Rattle.papers.specs.Checks.{papersOf}
 use Rattle.papers.specs.declared.programs.Program.{Program}
 use Rattle.papers.specs.declared.checks.Papers.{Papers}
-use Rattle.tables.specs.Offsets.{rowCount, rowsAt, marksAt, extentOf}
+use Rattle.tables.specs.Offsets.{rowCount}
 use Rattle.tables.specs.Shape.{shaped, marksTests, columnTests}
 use Rattle.tables.specs.Rising.{isRising}
 use Rattle.semijoin.specs.Marks.{reducedBy, reduceOutcome, reducedOf, marksAfter}
-use Rattle.tables.specs.Values.{occursIn}
+use Rattle.tables.specs.Values.{valuesOf}
 use Rattle.semijoin.specs.Local.{openedIn, openOutcome}
-use Rattle.semijoin.specs.Run.{runMarks, runChecked, runOutcome}
-use Rattle.tables.specs.Rows.{wordOver, keptOver}
-use Rattle.semijoin.specs.Promise.{wordOf, keptAt}
-use Rattle.tables.specs.declared.offsets.Extent.{Extent}
-use Rattle.semijoin.specs.declared.marks.Reduced.the-variants as r
-use Rattle.tables.specs.declared.values.Gathered.the-variants as g
-use Rattle.tables.proofs.RisingLaws.{rising-exact}
+use Rattle.semijoin.specs.Run.{stepped, steppedAll, runMarks, runChecked, runOutcome}
+use Rattle.semijoin.specs.CallPromise.{CallPromise}
+use Rattle.semijoin.specs.declared.marks.Reduced.the-variants.{Removed, Refused}
 use Rattle.tables.proofs.CallLaws.{first-shape, then-marks, then-rest}
-use Rattle.semijoin.proofs.PromiseLaws.{promise}
-use Rattle.semijoin.proofs.RunLaws.{run-outcome}
-use Rattle.semijoin.proofs.TidyLaws.{tidy-shaped, tidy-row-count, tidy-opened}
+use Rattle.tables.proofs.TidyLaws.{tidy-shaped, tidy-row-count}
+use Rattle.semijoin.proofs.RunLaws.{run-length, run-past, step-answer, run-answer, run-outcome, run-exact}
+use Rattle.semijoin.proofs.TidyLaws.{tidy-opened}
 
 -- ---- the answer and the marks of an outcome that is known
 
-module _ (marks : List ℕ) where
-  pub marks-kept : (n p : ℕ) → marksAfter marks (bad n p) ≡ marks
-  unfolding marksAfter
-  marks-kept n p = refl
+answers-removed : (n : ℕ) (after : List ℕ) (p : ℕ) → reducedOf n (good after p) ≡ Removed n
+unfolding reducedOf
+answers-removed n after p = refl
 
-  pub marks-set : (after : List ℕ) (p : ℕ) → marksAfter marks (good after p) ≡ after
-  unfolding marksAfter
-  marks-set after p = refl
+answers-refused : (n m p : ℕ) → reducedOf n (bad m p) ≡ Refused m p
+unfolding reducedOf
+answers-refused n m p = refl
+
+marks-set : (marks after : List ℕ) (p : ℕ) → marksAfter marks (good after p) ≡ after
+unfolding marksAfter
+marks-set marks after p = refl
+
+marks-kept : (marks : List ℕ) (n p : ℕ) → marksAfter marks (bad n p) ≡ marks
+unfolding marksAfter
+marks-kept marks n p = refl
 
 -- a call that checks its papers first refuses by their refusal, or by 10 or 11 at 0
 papers-first : {A B : Type 0} (o : Outcome A) (f : A → Envelope) (effect : A → B) (words : List ℕ) (n m q : ℕ)
@@ -84,7 +83,7 @@ module _ (e : Envelope) (words : List ℕ) (here : ℕ → Bool) (marks : List �
     pub open-judged : openOutcome e words here marks ≡ judged (marksTests e words (length marks)) (good (openedIn e words here marks) 0)
     unfolding openOutcome
     open-judged =
-        rw (check-complete e within, tidy-shaped e within words, tidy-row-count e within words, tidy-opened e within words here)
+        rw (check-complete e within, tidy-shaped e within words, tidy-row-count e within words, tidy-opened e within words here marks)
 
     pub open-shapeless : shaped e words ≡ false → openOutcome e words here marks ≡ bad wrongShape 0
     open-shapeless s = open-judged ∙ first-shape e words (length marks) [] (good (openedIn e words here marks) 0) s
@@ -96,28 +95,9 @@ module _ (e : Envelope) (words : List ℕ) (here : ℕ → Bool) (marks : List �
       pub open-taken : rowCount e words ≤ length marks → openOutcome e words here marks ≡ good (openedIn e words here marks) 0
       open-taken h = open-judged ∙ then-rest e words (length marks) [] (good (openedIn e words here marks) 0) s h
 
--- a value occurs exactly where tables, marks and column are right and some kept row has it
-module _ (e : Envelope) (a : Place) (words marks : List ℕ) (x : ℕ) where
-  pub occurs-exact : (occursIn e words marks a x ≡ true)
-      ↔ ((shaped e words ≡ true) × (rowCount e words ≤ length marks) × (isPlace e a ≡ true)
-      × ((i : ℕ) × (keptAt e words marks (a .relation) i ≡ true) × (wordOf e words a i ≡ x)))
-  unfolding occursIn
-  occurs-exact = (
-    λ t.
-        let three = and-left _ _ t in
-        let two = and-left _ _ three in (
-          and-left _ _ two,
-          leb-true _ _ (and-right (shaped e words) _ two),
-          and-right (shaped e words && leb (rowCount e words) (length marks)) _ three,
-          promise e .values-are words marks a x .0 (and-right (shaped e words && leb (rowCount e words) (length marks) && isPlace e a) _ t),
-        ),
-    λ (s, h, c, some).
-        and-both (and-both (and-both s (le-leb _ _ h)) c) (promise e .values-are words marks a x .1 some),
-  )
-
 -- ---- reducing by values
 
-module _ (e : Envelope) (a : Place) (words values marks : List ℕ) where
+module _ (e : Envelope) (words values : List ℕ) (a : Place) (marks : List ℕ) where
   abbrev reduced : List ℕ
   reduced = reducedBy e words values a marks
 
@@ -151,28 +131,9 @@ module _ (e : Envelope) (a : Place) (words values marks : List ℕ) where
         unfolding reduceOutcome
         reduce-falling f = then-rest e words (length marks) reduceTests (good reduced 0) s h ∙ rw (c, f)
 
-        module _ (rises : Rises 0 values) where
-          pub reduce-taken : reduceOutcome e words values a marks ≡ good (reducedBy e words values a marks) 0
-          unfolding reduceOutcome
-          reduce-taken = then-rest e words (length marks) reduceTests (good reduced 0) s h ∙ rw (c, rising-exact values .1 rises)
-
-          pub reduce-rows : (n : ℕ) → reducedOf n (reduceOutcome e words values a marks) ≡ r.Removed n
-          unfolding reducedOf
-          reduce-rows n = rw reduce-taken
-
-          pub reduce-marks : marksAfter marks (reduceOutcome e words values a marks) ≡ reducedBy e words values a marks
-          unfolding marksAfter
-          reduce-marks = rw reduce-taken
-
-  -- a refusal, as it is answered
-  module _ (n p : ℕ) (h : reduceOutcome e words values a marks ≡ bad n p) where
-    pub reduce-refused : (m : ℕ) → reducedOf m (reduceOutcome e words values a marks) ≡ r.Refused n p
-    unfolding reducedOf
-    reduce-refused m = rw h
-
-    pub reduce-stay : marksAfter marks (reduceOutcome e words values a marks) ≡ marks
-    unfolding marksAfter
-    reduce-stay = rw h
+        pub reduce-taken : isRising values ≡ true → reduceOutcome e words values a marks ≡ good (reducedBy e words values a marks) 0
+        unfolding reduceOutcome
+        reduce-taken t = then-rest e words (length marks) reduceTests (good reduced 0) s h ∙ rw (c, t)
 
 -- ---- the one-place run
 
@@ -200,24 +161,57 @@ module _ (e : Envelope) (p : Program) (words marks : List ℕ) where
       pub run-unmarked : length marks < rowCount e words → runOutcome e p words marks ≡ bad tooShort 0
       run-unmarked h = run-outcome e p words marks within acceptable ∙ then-marks e words (length marks) [] (good ran 0) s h
 
-      pub run-taken : rowCount e words ≤ length marks → runOutcome e p words marks ≡ good (runMarks e p words marks) 0
-      run-taken h = run-outcome e p words marks within acceptable ∙ then-rest e words (length marks) [] (good ran 0) s h
+-- ---- the one-place run by its parts
 
--- an empty list of values removes every row
-pub none-left : (e : Envelope) (a : Place) (words marks : List ℕ) (i : ℕ) → keptAt e words (reducedBy e words [] a marks) (a .relation) i ≡ false
-none-left e a words marks i = promise e .exactly words [] marks a i ∙ go (keptAt e words marks (a .relation) i)
-  where
-    go : (b : Bool) → (b && false) ≡ false
-    go true = refl
-    go false = refl
+module _ (e : Envelope) (words : List ℕ) where
+  step-is : (s : Step) (marks : List ℕ) → stepped e words s marks ≡ reducedBy e words (valuesOf e words marks (s .right)) (s .left) marks
+  unfolding stepped
+  step-is s marks = refl
 
--- ---- one row, by an envelope's extent
+  steps-none : (marks : List ℕ) → steppedAll e words [] marks ≡ marks
+  unfolding steppedAll
+  steps-none marks = refl
 
-module _ (e : Envelope) (words : List ℕ) (x : Extent) (i : ℕ) where
-  pub word-by : (a : Place) → x ≡ extentOf e words (a .relation) → (w : ℕ) → w ≡ wordOver x words i (a .column) → w ≡ wordOf e words a i
-  unfolding rowsAt
-  word-by a f w g = g ∙ ap (λ (y : Extent). wordOver y words i (a .column)) f
+  steps-first : (s : Step) (ss : List Step) (marks : List ℕ)
+      → steppedAll e words (s ∷ ss) marks ≡ steppedAll e words ss (stepped e words s marks)
+  unfolding steppedAll
+  steps-first s ss marks = refl
 
-  pub kept-by : (r : ℕ) → x ≡ extentOf e words r → (marks : List ℕ) (b : Bool) → b ≡ keptOver x marks i → b ≡ keptAt e words marks r i
-  unfolding marksAt
-  kept-by r f marks b g = g ∙ ap (λ (y : Extent). keptOver y marks i) f
+  run-is : (p : Program) (marks : List ℕ) → runMarks e p words marks ≡ steppedAll e words (stepsOf p) (openedIn e words (λ _. true) marks)
+  unfolding runMarks
+  run-is p marks = refl
+
+-- ---- all of it
+
+pub call-promise : CallPromise
+call-promise =
+    record {
+      step-is = step-is;
+      steps-none = steps-none;
+      steps-first = steps-first;
+      run-is = λ e p words marks. run-is e words p marks;
+      run-past = λ e p words marks fits. run-past e words p marks fits;
+      run-as-many = λ e p words marks. run-length e words p marks;
+      step-answer = step-answer;
+      run-answer = λ e p words marks legals fits. run-answer e words p marks legals fits;
+      open-number = open-number;
+      open-bad = open-bad;
+      open-shapeless = open-shapeless;
+      open-unmarked = open-unmarked;
+      open-taken = open-taken;
+      reduce-number = reduce-number;
+      reduce-shapeless = reduce-shapeless;
+      reduce-unmarked = reduce-unmarked;
+      reduce-nowhere = reduce-nowhere;
+      reduce-falling = reduce-falling;
+      reduce-taken = reduce-taken;
+      run-number = run-number;
+      run-bad = run-bad;
+      run-shapeless = run-shapeless;
+      run-unmarked = run-unmarked;
+      run-exact = run-exact;
+      answers-removed = answers-removed;
+      answers-refused = answers-refused;
+      marks-set = marks-set;
+      marks-kept = marks-kept;
+    }

@@ -32,8 +32,8 @@ use Rattle.tables.specs.Shape.{shaped}
 use Rattle.tables.specs.Rows.{keptOf, keptRows}
 use Rattle.semijoin.specs.Marks.{sieved, reducedBy, removedOf, removedBy, marksAfter, sievedOver, removedOver}
 use Rattle.tables.specs.Values.{valuesOf, risingValues, valuesOver}
-use Rattle.semijoin.specs.Local.{passesBy, passes, openedAt, opened, openingMark}
-use Rattle.semijoin.specs.Run.{stepped, runMarks, runChecked, runOutcome}
+use Rattle.semijoin.specs.Local.{passesBy, passes, openedAt, opened, openedIn, openingMark}
+use Rattle.semijoin.specs.Run.{stepped, steppedAll, runMarks, runChecked, runOutcome}
 
 -- a column of a domain, of width 1, with so many distinct values
 abbrev column : ℕ → ℕ → Column
@@ -93,5 +93,5 @@ figures =
     ∷ []
 
 pub figures-hold : Hold figures
-unfolding numbered padded numbersFrom littleEnd bytesOf firstFrom insert rising numberAt numberThat marked markOf versionAt headOf samePlace placeAt placeBytes columnsOf columnAt columnBytes columnsThen relationAt relationBytes domainOf selectionAt joined joinAt clauseAt kindBytes sizesOf relationsOf clausesOf targetsOf columnsIn withVersion withSizes withRelations withClauses withTargets siteOf isAt holds names kept keptColumns firstBare ended filled listInto targetsThen clausesThen relationsThen sizesThen envelopeFrom envelopeBytes checkEnvelope edges onPath isPlace legalBy stepBytes constantsOf selectionsBy equalitiesBy stepsOf stepAt endedProgram stepsThen programBy readProgram programBytes checkProgram papersOf rowsIn tablesIn tablesOf meetsAll answerOn answerRows countIn wordsBefore rowsBefore firstWord rowsOver marksOver rowsAt marksAt keptOf keptRows sieved sievedOver reducedBy removedOf removedOver removedBy valuesOver valuesOf risingValues stepped nextOf shaped passesBy passes openingMark openedAt opened runMarks runChecked runOutcome marksAfter
+unfolding numbered padded numbersFrom littleEnd bytesOf firstFrom insert rising numberAt numberThat marked markOf versionAt headOf samePlace placeAt placeBytes columnsOf columnAt columnBytes columnsThen relationAt relationBytes domainOf selectionAt joined joinAt clauseAt kindBytes sizesOf relationsOf clausesOf targetsOf columnsIn withVersion withSizes withRelations withClauses withTargets siteOf isAt holds names kept keptColumns firstBare ended filled listInto targetsThen clausesThen relationsThen sizesThen envelopeFrom envelopeBytes checkEnvelope edges onPath isPlace legalBy stepBytes constantsOf selectionsBy equalitiesBy stepsOf stepAt endedProgram stepsThen programBy readProgram programBytes checkProgram papersOf rowsIn tablesIn tablesOf meetsAll answerOn answerRows countIn wordsBefore rowsBefore firstWord rowsOver marksOver rowsAt marksAt keptOf keptRows sieved sievedOver reducedBy removedOf removedOver removedBy valuesOver valuesOf risingValues stepped nextOf shaped passesBy passes openingMark openedAt opened openedIn steppedAll runMarks runChecked runOutcome marksAfter
 figures-hold = refl

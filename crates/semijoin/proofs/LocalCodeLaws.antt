@@ -27,7 +27,7 @@ use Rattle.paths.specs.declared.implied.Equal.{Equal}
 use Rattle.paths.specs.declared.implied.Equalities.{Equalities}
 use Rattle.paths.proofs.ImpliedLaws.{selections-by-labels, equalities-by-labels}
 use Rattle.tables.specs.Offsets.{rowsAt, extentOf, rowsOver}
-use Rattle.semijoin.specs.Local.{passesBy, passes, openedAt, opened, openingMark}
+use Rattle.semijoin.specs.Local.{passesBy, passes, openedAt, opened, openedIn, openingMark}
 use Rattle.tables.specs.declared.offsets.Extent.{Extent}
 use Rattle.semijoin.proofs.LocalLaws.{marksOf, opened-before}
 use Rattle.tables.proofs.RowLaws.{rows-over}
@@ -140,8 +140,8 @@ module _ (e : Envelope) (words : List ℕ) (here : ℕ → Bool) where
     opening-all-start = record { within = omega arith; long = refl; same = refl }
 
     module _ (i : ℕ) (marks : List ℕ) (g : OpeningAll before end i marks) where
-      pub opening-all-done : end ≤ i → end ≡ min 8 (e .«relation_count») → marks ≡ sets before 0 (opened e words here)
-      unfolding opened
+      pub opening-all-done : end ≤ i → end ≡ min 8 (e .«relation_count») → marks ≡ openedIn e words here before
+      unfolding opened openedIn
       opening-all-done h k =
           let s : i ≡ relationCount e = omega (arith, g .within) in
           g .same ∙ ap (λ (n : ℕ). sets before 0 (each (marksOf e words here) (below n))) s

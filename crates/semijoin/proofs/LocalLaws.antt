@@ -7,7 +7,7 @@ use native.Mathlib.Nat.{zero-add}
 use native.Mathlib.Numerals.{add-one}
 use native.Mathlib.Omega.{arith}
 use lib.ListN.{length, getD, take, drop, length-map, length-append}
-use lib.Seq.{sets, sets-eq, take-at, drop-at}
+use lib.Seq.{length-sets, sets-eq, take-at, drop-at}
 use lib.Dec.{eqb}
 use borrow.Author.Tests.{eq-eqb}
 use Rattle.ground.specs.Tests.{pick}
@@ -25,9 +25,9 @@ use Rattle.paths.specs.declared.implied.Selected.{Selected}
 use Rattle.paths.specs.declared.implied.Equal.{Equal}
 use Rattle.paths.proofs.ImpliedLaws.{selection-met, equality-met}
 use Rattle.tables.specs.Offsets.{countIn, rowsBefore, firstMark, rowCount, rowsAt, marksAt, marksOver}
-use Rattle.semijoin.specs.Local.{passesBy, passes, openingMark, openedAt, opened}
-use Rattle.tables.specs.Rows.{isKept}
-use Rattle.semijoin.specs.Promise.{rowOf, keptAt, Needed}
+use Rattle.semijoin.specs.Local.{passesBy, passes, openingMark, openedAt, opened, openedIn}
+use Rattle.tables.specs.Rows.{isKept, rowOf, keptAt}
+use Rattle.semijoin.specs.Promise.{Needed}
 use Rattle.tables.proofs.OffsetLaws.{rowsAt-length, rows-none, rows-more}
 
 -- a row that the answer needs passes
@@ -89,12 +89,16 @@ module _ (e : Envelope) (words : List ℕ) where
     unfolding opened
     opened-length = opened-before (relationCount e)
 
+    pub opened-as-many : (marks : List ℕ) → length (openedIn e words here marks) ≡ length marks
+    unfolding openedIn
+    opened-as-many marks = length-sets marks 0 (opened e words here)
+
     module _ (marks : List ℕ) (fits : rowCount e words ≤ length marks) where
       room : 0 + length (opened e words here) ≤ length marks
       room = omega (arith, opened-length)
 
-      pub opened-own : (r : ℕ) → r < relationCount e → marksAt e words r (sets marks 0 (opened e words here)) ≡ openedAt e words (here r) r
-      unfolding marksAt marksOver
+      pub opened-own : (r : ℕ) → r < relationCount e → marksAt e words r (openedIn e words here marks) ≡ openedAt e words (here r) r
+      unfolding openedIn marksAt marksOver
       opened-own r h =
           ap (λ (l : List ℕ). take (countIn e words r) (drop (firstMark e words r) l))
           (sets-eq (opened e words here) marks 0 room ∙ opened-parts r h rest)
@@ -104,19 +108,20 @@ module _ (e : Envelope) (words : List ℕ) where
           rest : List ℕ
           rest = drop (0 + length (opened e words here)) marks
 
-      pub opened-past : drop (rowCount e words) (sets marks 0 (opened e words here)) ≡ drop (rowCount e words) marks
+      pub opened-past : drop (rowCount e words) (openedIn e words here marks) ≡ drop (rowCount e words) marks
+      unfolding openedIn
       opened-past =
           let end : 0 + length (opened e words here) ≡ rowCount e words = omega (arith, opened-length) in
           rw end at (sets-behind marks 0 (opened e words here) room)
 
       -- 1 where a row is here and passes, else 0; so it is kept exactly there
       pub opened-byte : (r i : ℕ) → r < relationCount e → i < countIn e words r
-          → getD (marksAt e words r (sets marks 0 (opened e words here))) i 0 ≡ pick (here r && passes e r (rowOf e words r i)) 1 0
+          → getD (marksAt e words r (openedIn e words here marks)) i 0 ≡ pick (here r && passes e r (rowOf e words r i)) 1 0
       unfolding openedAt openingMark passes
       opened-byte r i h k =
           ap (λ (ms : List ℕ). getD ms i 0) (opened-own r h)
           ∙ getD-map (λ (row : Row). pick (here r && passes e r row) 1 0) (rowsAt e words r) i [] 0 (rw (rowsAt-length e words r) k)
 
       pub opened-kept : (r i : ℕ) → r < relationCount e → i < countIn e words r
-          → keptAt e words (sets marks 0 (opened e words here)) r i ≡ (here r && passes e r (rowOf e words r i))
+          → keptAt e words (openedIn e words here marks) r i ≡ (here r && passes e r (rowOf e words r i))
       opened-kept r i h k = ap isKept (opened-byte r i h k) ∙ kept-bit (here r && passes e r (rowOf e words r i))

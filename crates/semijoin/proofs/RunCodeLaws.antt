@@ -23,6 +23,7 @@ use Rattle.ground.proofs.RefusingLaws.{judge-refused, judge-taken}
 use Rattle.fields.proofs.PutLaws.{fresh-bytes}
 use Rattle.contents.specs.Parts.{relationCount}
 use Rattle.envelopes.specs.Rules.{Within}
+use Rattle.entries.specs.declared.places.Place.{Place}
 use Rattle.contents.specs.declared.envelope.Envelope.{Envelope}
 use Rattle.paths.specs.Steps.{isPlace, legal, LegalStep}
 use Rattle.papers.specs.Programs.{noStep, stepsOf}
@@ -41,20 +42,21 @@ use Rattle.tables.specs.declared.values.Gathered.{Gathered}
 use Rattle.tables.specs.declared.values.Gathered.the-variants as g
 use Rattle.semijoin.specs.Run.{stepped, steppedAll, runMarks, runChecked, runOutcome}
 use Rattle.tables.proofs.ShapeLaws.{shaped-shape}
+use Rattle.tables.proofs.ValueLaws.{values-rise, no-more-values}
 use Rattle.tables.proofs.CallLaws.{values-length, values-buffer}
 use Rattle.semijoin.proofs.PromiseLaws.{promise}
 use Rattle.semijoin.proofs.CallCodeLaws.{after-refused, after-taken}
 
--- ---- a step, by the right column's rising values: a buffer of 4,096 takes them all, so that gathering them is not refused
+-- ---- a step, by a column's rising values: a buffer of 4,096 takes them all, so that gathering them is not refused
 
-module _ (e : Envelope) (words marks : List ℕ) (s : Step) (size : ℕ) (h : 4096 ≤ size) (t : shaped e words ≡ true)
-    (room : rowCount e words ≤ length marks) (p : isPlace e (s .right) ≡ true) (gathered : Gathered)
-    (f : gathered ≡ gatheredOf (valuesOutcome e words marks (s .right) 0 (replicate size 0))) where
+module _ (e : Envelope) (words marks : List ℕ) (right : Place) (size : ℕ) (h : 4096 ≤ size) (t : shaped e words ≡ true)
+    (room : rowCount e words ≤ length marks) (gathered : Gathered)
+    (f : gathered ≡ gatheredOf (valuesOutcome e words marks right 0 (replicate size 0))) (p : isPlace e right ≡ true) where
   abbrev rising : List ℕ
-  rising = risingValues e words marks (s .right)
+  rising = risingValues e words marks right
 
   few : length rising ≤ size
-  few = omega (arith, promise e .no-more words marks (s .right), shaped-shape e words t .few (s .right .relation))
+  few = omega (arith, no-more-values e words marks right, shaped-shape e words t .few (right .relation))
 
   abbrev fresh : List ℕ
   fresh = replicate size 0
@@ -66,19 +68,19 @@ module _ (e : Envelope) (words marks : List ℕ) (s : Step) (size : ℕ) (h : 40
       omega (arith, few)
 
   is-length : gathered ≡ g.Length (length rising)
-  is-length = f ∙ values-length e (s .right) words marks 0 fresh t room p fits
+  is-length = f ∙ values-length e right words marks 0 fresh t room p fits
 
   pub step-refused : (m q : ℕ) → gathered ≡ g.Refused m q → ⊥
   step-refused m q k = let z : _≡_ {A = ℕ} 0 1 = cc is-length in never z
 
-  module _ (values : List ℕ) (b : values ≡ gatheredIn 0 (replicate size 0) (valuesOutcome e words marks (s .right) 0 (replicate size 0)))
+  module _ (values : List ℕ) (b : values ≡ gatheredIn 0 (replicate size 0) (valuesOutcome e words marks right 0 (replicate size 0)))
       (n : ℕ) (k : gathered ≡ g.Length n) where
     count : n ≡ length rising
     count = cc is-length
 
-    found : take n values ≡ risingValues e words marks (s .right)
+    found : take n values ≡ risingValues e words marks right
     found =
-        let stands = b ∙ values-buffer e (s .right) words marks 0 fresh t room p fits in
+        let stands = b ∙ values-buffer e right words marks 0 fresh t room p fits in
         fresh-bytes size size rising n values (count, stands, omega (arith, few, count)) (omega arith)
 
     pub step-fits : n ≤ size
@@ -88,14 +90,17 @@ module _ (e : Envelope) (words marks : List ℕ) (s : Step) (size : ℕ) (h : 40
     step-count = count ∙ ap length (sym found)
 
     pub step-rises : Rises 0 (take n values)
-    step-rises = rw found (promise e .rises words marks (s .right))
+    step-rises = rw found (values-rise e words marks right)
 
-    pub step-taken : (after : List ℕ) → after ≡ reducedBy e words (take n values) (s .left) marks → after ≡ stepped e words s marks
+    -- where it is the step's right column, and its left relation is reduced
+    pub step-taken : (s : Step) → right ≡ s .right → (after : List ℕ) → after ≡ reducedBy e words (take n values) (s .left) marks
+        → after ≡ stepped e words s marks
     unfolding stepped
-    step-taken after a =
+    step-taken s same after a =
         a
         ∙ ap (λ (l : List ℕ). reducedBy e words l (s .left) marks) found
-        ∙ promise e .either-list words marks (s .right) words marks (s .left)
+        ∙ promise e .either-list words marks words marks (s .left) right
+        ∙ ap (λ (b : Place). reducedBy e words (valuesOf e words marks b) (s .left) marks) same
 
 pub legal-used : (e : Envelope) (p : Program) → Every (λ (s : Step). legal e s ≡ true) (stepsOf p)
     → Every (λ (s : Step). legal e s ≡ true) (take (p .count) (p .steps))
@@ -116,19 +121,20 @@ module _ (e : Envelope) (words : List ℕ) (l : List Step) (n : ℕ) (before : L
   pub taking-start : Taking e words (take n l) before 0 before
   taking-start = record { long = refl; same = refl }
 
-  module _ (end : ℕ) (size : length l ≡ 156) (u : end ≡ min 156 n) where
-    used : length (take n l) ≡ end
-    used = length-take n l ∙ rw (size, u) (omega arith)
+  module _ (size : length l ≡ 156) where
+    used : length (take n l) ≡ min 156 n
+    used = length-take n l ∙ rw size (omega arith)
 
     module _ (i : ℕ) (marks : List ℕ) (g : Taking e words (take n l) before i marks) where
-      pub taking-done : end ≤ i → marks ≡ steppedAll e words (take n l) before
+      pub taking-done : min 156 n ≤ i → marks ≡ steppedAll e words (take n l) before
+      unfolding steppedAll
       taking-done h =
           let k : length (take n l) ≤ i = omega (arith, used) in
           sym (ap (λ (t : List Step). steppedAll e words t marks) (drop-of-length-le (take n l) k)) ∙ g .same
 
-      module _ (h : i < end) where
+      module _ (h : i < min 156 n) where
         is-step : getD (take n l) i noStep ≡ getD l i noStep
-        is-step = getD-take n l i noStep (omega (arith, u))
+        is-step = getD-take n l i noStep (omega arith)
 
         pub taking-legal : Every (λ (s : Step). legal e s ≡ true) (take n l) → LegalStep e (getD l i noStep)
         taking-legal all =
@@ -137,6 +143,7 @@ module _ (e : Envelope) (words : List ℕ) (l : List Step) (n : ℕ) (before : L
             (rw is-step at (every-getD (λ (s : Step). legal e s ≡ true) (take n l) i noStep k all))
 
         pub taking-more : (after : List ℕ) → after ≡ stepped e words (getD l i noStep) marks → Taking e words (take n l) before (i + 1) after
+        unfolding steppedAll
         taking-more after a =
             let k : i < length (take n l) = omega (arith, used) in
             record {
@@ -152,11 +159,11 @@ module _ (e : Envelope) (p : Program) (words marks : List ℕ) where
   abbrev Ran : Verdict → List ℕ → Type 0
   Ran v after = (v ≡ verdictOf (runChecked e p words marks)) × (after ≡ marksAfter marks (runChecked e p words marks))
 
-  everywhere : opened e words (λ r. getD (replicate 8 true) r false) ≡ opened e words (λ _. true)
-  unfolding opened
+  everywhere : openedIn e words (λ r. getD (replicate 8 true) r false) marks ≡ openedIn e words (λ _. true) marks
+  unfolding openedIn opened
   everywhere =
-      each-alike _ _ (below (relationCount e)) λ r m.
-      ap (λ (q : Bool). openedAt e words q r) (is-true r (omega (arith, below-from (relationCount e) m, min-le-left 8 (e .«relation_count»))))
+      ap (sets marks 0) (each-alike _ _ (below (relationCount e)) λ r m.
+      ap (λ (q : Bool). openedAt e words q r) (is-true r (omega (arith, below-from (relationCount e) m, min-le-left 8 (e .«relation_count»)))))
     where
       is-true : (r : ℕ) → r < 8 → getD (replicate 8 true) r false ≡ true
       is-true zero h = refl
@@ -182,7 +189,7 @@ module _ (e : Envelope) (p : Program) (words marks : List ℕ) where
     run-whole h between after k a =
         after-taken marks (runChecked e p words marks) after 0
         (judge-taken (marksTests e words (length marks)) v g (good (runMarks e p words marks) 0) h
-        ∙ ap (λ (l : List ℕ). good l 0) (sym (a ∙ ap (steppedAll e words (take (p .count) (p .steps))) (k ∙ ap (sets marks 0) everywhere))))
+        ∙ ap (λ (l : List ℕ). good l 0) (sym (a ∙ ap (steppedAll e words (take (p .count) (p .steps))) (k ∙ everywhere))))
 
 -- ---- the whole run
 

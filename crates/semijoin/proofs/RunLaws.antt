@@ -1,14 +1,13 @@
 -- The one-place run: local operations keep every row that the answer needs, and a legal step removes only rows that stand in no
 -- combination of kept rows which meets all clauses, so the answer on the kept rows is the answer, in its order.
 use mathlib.Core.Path.{_≡_, refl, sym, ap, _∙_}
-use mathlib.Core.Bool.{Bool, true, _&&_}
+use mathlib.Core.Bool.{Bool, true}
 use mathlib.Core.Logic.{_↔_}
 use mathlib.Core.List.{List, [], _∷_, List·Memᴰ}
 use Prim.Native.Nat.{ℕ, _≤_, _<_}
 use native.Mathlib.Decide.{ℕ-discrete}
 use native.Mathlib.Omega.{arith}
 use lib.ListN.{length, getD, drop}
-use lib.Seq.{sets, length-sets}
 use lib.Dec.{eqb}
 use borrow.Author.Tests.{le-ltb, eq-eqb, ne-eqb}
 use Rattle.ground.specs.Tests.{pick}
@@ -16,7 +15,6 @@ use Rattle.ground.specs.Lists.{Every, filter, below}
 use Rattle.ground.specs.Outcome.Outcome.{good}
 use Rattle.ground.specs.Refusing.{judged}
 use Rattle.ground.proofs.CountLaws.{split}
-use Rattle.ground.proofs.TestLaws.{and-left, and-right, and-both}
 use Rattle.ground.proofs.ListLaws.{any-of, map-mem, map-alike, filter-every}
 use Rattle.ground.proofs.CombinationLaws.{combinations-from}
 use Rattle.ground.proofs.OutcomeLaws.{next-good}
@@ -41,19 +39,20 @@ use Rattle.papers.proofs.TidyLaws.{tidy-acceptable}
 use Rattle.papers.proofs.ExactPrograms.{program-complete}
 use Rattle.papers.proofs.ExactChecks.{check-exact}
 use Rattle.tables.specs.Offsets.{countIn, rowCount, marksAt, rowsAt}
-use Rattle.semijoin.specs.Local.{opened}
-use Rattle.tables.specs.Rows.{keptRows, keptTables}
+use Rattle.semijoin.specs.Local.{openedIn}
+use Rattle.tables.specs.Rows.{rowOf, keptRows, keptTables}
 use Rattle.semijoin.specs.Marks.{reducedBy}
 use Rattle.tables.specs.Rising.{among}
 use Rattle.tables.specs.Values.{valuesOf, valuesOver}
 use Rattle.semijoin.specs.Run.{stepped, steppedAll, runChecked, runMarks, runOutcome}
 use Rattle.tables.specs.Shape.{shaped, marksTests}
-use Rattle.semijoin.specs.Promise.{rowOf, wordOf, keptAt, FewerRows, NeededIn, Covers}
+use Rattle.semijoin.specs.Promise.{FewerRows, NeededIn, Covers}
 use Rattle.tables.proofs.OffsetLaws.{count-outside}
 use Rattle.tables.proofs.JudgedLaws.{marks-pass}
 use Rattle.semijoin.proofs.PromiseLaws.{promise}
-use Rattle.semijoin.proofs.LocalLaws.{needed-passes, opened-kept, opened-past}
-use Rattle.semijoin.proofs.TidyLaws.{tidy-shaped, tidy-row-count, tidy-run, tidy-program-run}
+use Rattle.semijoin.proofs.LocalLaws.{needed-passes, opened-kept, opened-past, opened-as-many}
+use Rattle.tables.proofs.TidyLaws.{tidy-shaped, tidy-row-count}
+use Rattle.semijoin.proofs.TidyLaws.{tidy-run, tidy-program-run}
 use Rattle.semijoin.proofs.AnswerLaws.{listed-length, listed-at, answer-filtered, delivered}
 use Rattle.semijoin.proofs.ReducedLaws.{rows-reduced, rows-others}
 use Rattle.tables.proofs.ShapeLaws.{place-relation}
@@ -67,7 +66,7 @@ module _ (e : Envelope) (words : List ℕ) where
   unfolding keptRows
   answer-kept marks covers = delivered e words (λ _. words) (λ _. marks) (λ r h. refl) (λ r h. covers r)
 
-  pub opened-covers : (marks : List ℕ) → rowCount e words ≤ length marks → CoversAll (sets marks 0 (opened e words (λ _. true)))
+  pub opened-covers : (marks : List ℕ) → rowCount e words ≤ length marks → CoversAll (openedIn e words (λ _. true) marks)
   opened-covers marks fits r i h n =
       split (relationCount e) r
       (λ k. let none : countIn e words r ≡ 0 = count-outside e words r k in absurd (omega arith))
@@ -75,29 +74,10 @@ module _ (e : Envelope) (words : List ℕ) where
 
   -- local operations leave the answer
   pub opened-answer : (marks : List ℕ) → rowCount e words ≤ length marks
-      → answerOn (clausesOf e) (targetsOf e) (keptTables e words (sets marks 0 (opened e words (λ _. true)))) ≡ answerRows e words
-  opened-answer marks fits = answer-kept (sets marks 0 (opened e words (λ _. true))) (opened-covers marks fits)
+      → answerOn (clausesOf e) (targetsOf e) (keptTables e words (openedIn e words (λ _. true) marks)) ≡ answerRows e words
+  opened-answer marks fits = answer-kept (openedIn e words (λ _. true) marks) (opened-covers marks fits)
 
   -- ---- steps
-
-  -- a step keeps exactly the kept rows of its left relation whose column occurs in its right column, of the kept rows
-  pub step-exact : (s : Step) (marks : List ℕ) (i : ℕ)
-      → (keptAt e words (stepped e words s marks) (s .left .relation) i ≡ true)
-      ↔ ((keptAt e words marks (s .left .relation) i ≡ true)
-      × ((j : ℕ) × (keptAt e words marks (s .right .relation) j ≡ true) × (wordOf e words (s .right) j ≡ wordOf e words (s .left) i)))
-  unfolding stepped
-  step-exact s marks i = (
-    λ t.
-        let both : (keptAt e words marks (s .left .relation) i && among (valuesOf e words marks (s .right)) (wordOf e words (s .left) i)) ≡ true =
-        sym (promise e .exactly words (valuesOf e words marks (s .right)) marks (s .left) i) ∙ t in (
-          and-left _ _ both,
-          promise e .values-are words marks (s .right) (wordOf e words (s .left) i) .0
-              (and-right (keptAt e words marks (s .left .relation) i) _ both),
-        ),
-    λ (k, some).
-        promise e .exactly words (valuesOf e words marks (s .right)) marks (s .left) i
-        ∙ and-both k (promise e .values-are words marks (s .right) (wordOf e words (s .left) i) .1 some),
-  )
 
   -- a legal step leaves the answer, whatever the marks: a row that it removes stands in no combination of kept rows that meets
   -- all clauses, for along the step's path those have equal values
@@ -167,25 +147,26 @@ module _ (e : Envelope) (words : List ℕ) where
   pub steps-answer : (ss : List Step) (marks : List ℕ) → AllLegal ss
       → answerOn (clausesOf e) (targetsOf e) (keptTables e words (steppedAll e words ss marks))
       ≡ answerOn (clausesOf e) (targetsOf e) (keptTables e words marks)
+  unfolding steppedAll
   steps-answer [] marks l = refl
   steps-answer (s ∷ ss) marks l = steps-answer ss (stepped e words s marks) (l .1) ∙ step-answer s marks (l .0)
 
   -- ---- what every list of steps leaves: the length, the bytes past the last row, and no row more
 
   pub steps-length : (ss : List Step) (marks : List ℕ) → length (steppedAll e words ss marks) ≡ length marks
-  unfolding stepped
+  unfolding stepped steppedAll
   steps-length [] marks = refl
   steps-length (s ∷ ss) marks =
       steps-length ss (stepped e words s marks) ∙ promise e .as-many words (valuesOf e words marks (s .right)) marks (s .left)
 
   pub steps-past : (ss : List Step) (marks : List ℕ) → drop (rowCount e words) (steppedAll e words ss marks) ≡ drop (rowCount e words) marks
-  unfolding stepped
+  unfolding stepped steppedAll
   steps-past [] marks = refl
   steps-past (s ∷ ss) marks =
       steps-past ss (stepped e words s marks) ∙ promise e .past-stay words (valuesOf e words marks (s .right)) marks (s .left)
 
   pub steps-add-none : (ss : List Step) (marks : List ℕ) (r : ℕ) → FewerRows e r words (steppedAll e words ss marks) words marks
-  unfolding stepped
+  unfolding stepped steppedAll
   steps-add-none [] marks r i t = t
   steps-add-none (s ∷ ss) marks r i t =
       promise e .adds-none words (valuesOf e words marks (s .right)) marks (s .left) r i (steps-add-none ss (stepped e words s marks) r i t)
@@ -195,28 +176,21 @@ module _ (e : Envelope) (words : List ℕ) where
   pub run-length : (p : Program) (marks : List ℕ) → length (runMarks e p words marks) ≡ length marks
   unfolding runMarks
   run-length p marks =
-      steps-length (stepsOf p) (sets marks 0 (opened e words (λ _. true))) ∙ length-sets marks 0 (opened e words (λ _. true))
+      steps-length (stepsOf p) (openedIn e words (λ _. true) marks) ∙ opened-as-many e words (λ _. true) marks
 
   pub run-past : (p : Program) (marks : List ℕ) → rowCount e words ≤ length marks
       → drop (rowCount e words) (runMarks e p words marks) ≡ drop (rowCount e words) marks
   unfolding runMarks
   run-past p marks fits =
-      steps-past (stepsOf p) (sets marks 0 (opened e words (λ _. true))) ∙ opened-past e words (λ _. true) marks fits
+      steps-past (stepsOf p) (openedIn e words (λ _. true) marks) ∙ opened-past e words (λ _. true) marks fits
 
   -- local operations and then legal steps leave the answer
   pub run-answer : (p : Program) (marks : List ℕ) → AllLegal (stepsOf p) → rowCount e words ≤ length marks
       → answerOn (clausesOf e) (targetsOf e) (keptTables e words (runMarks e p words marks)) ≡ answerRows e words
   unfolding runMarks
-  run-answer p marks legals fits = steps-answer (stepsOf p) (sets marks 0 (opened e words (λ _. true))) legals ∙ opened-answer marks fits
+  run-answer p marks legals fits = steps-answer (stepsOf p) (openedIn e words (λ _. true) marks) legals ∙ opened-answer marks fits
 
 -- ---- with its refusals
-
--- both papers are taken, the tables have the envelope's shape, and there is a mark for every row
-pub record Runs (e : Envelope) (p : Program) (words marks : List ℕ) : Type 0 where
-  pub within : Within e
-  pub acceptable : Acceptable e p
-  pub shape : shaped e words ≡ true
-  pub room : rowCount e words ≤ length marks
 
 module _ (e : Envelope) (p : Program) (words marks : List ℕ) where
   -- papers that are taken may be looked at as they are
@@ -246,25 +220,30 @@ module _ (e : Envelope) (p : Program) (words marks : List ℕ) where
       let (within, acceptable, _, _) = check-exact e fits p t u small .0 (as-read f r t u check program) in
       (within, acceptable)
 
+  -- both papers are taken, the tables have the envelope's shape, and there is a mark for every row
+  abbrev Runs : List ℕ → ℕ → Type 0
+  Runs after q =
+      Within e × Acceptable e p × (shaped e words ≡ true) × (rowCount e words ≤ length marks) × (after ≡ runMarks e p words marks) × (q ≡ 0)
+
   -- the run is taken exactly then, and its marks are those of the run
   pub run-exact : Fits e → ProgramFits p → (after : List ℕ) (q : ℕ)
-      → (runOutcome e p words marks ≡ good after q) ↔ (Runs e p words marks × (after ≡ runMarks e p words marks) × (q ≡ 0))
+      → (runOutcome e p words marks ≡ good after q) ↔ Runs after q
   run-exact fits small after q = (sound, complete)
     where
-      sound : runOutcome e p words marks ≡ good after q → Runs e p words marks × (after ≡ runMarks e p words marks) × (q ≡ 0)
+      sound : runOutcome e p words marks ≡ good after q → Runs after q
       sound h =
           let (within, acceptable) = run-papers fits small after q h in
           let (none, same) = judged-good (marksTests e words (length marks)) (good (runMarks e p words marks) 0) after q .0 (sym (run-outcome within acceptable) ∙ h) in
           let (shape, room) = marks-pass e words (length marks) .0 none in
-          (record { within = within; acceptable = acceptable; shape = shape; room = room }, cc, cc)
+          (within, acceptable, shape, room, cc, cc)
 
-      complete : Runs e p words marks × (after ≡ runMarks e p words marks) × (q ≡ 0) → runOutcome e p words marks ≡ good after q
-      complete (runs, is, end) =
-          run-outcome (runs .within) (runs .acceptable) ∙ rw (runs .shape, le-ltb (length marks) (rowCount e words) (runs .room), is, end)
+      complete : Runs after q → runOutcome e p words marks ≡ good after q
+      complete (within, acceptable, shape, room, is, end) =
+          run-outcome within acceptable ∙ rw (shape, le-ltb (length marks) (rowCount e words) room, is, end)
 
   -- and the answer on the rows that it keeps is the answer
   pub taken-answer : Fits e → ProgramFits p → (after : List ℕ) (q : ℕ) → runOutcome e p words marks ≡ good after q
       → answerOn (clausesOf e) (targetsOf e) (keptTables e words after) ≡ answerRows e words
   taken-answer fits small after q h =
-      let (runs, is, _) = run-exact fits small after q .0 h in
-      rw is (run-answer e words p marks (runs .acceptable .steps) (runs .room))
+      let (_, acceptable, _, room, is, _) = run-exact fits small after q .0 h in
+      rw is (run-answer e words p marks (acceptable .steps) room)

@@ -4,3 +4,4 @@ pub mod Marks
 pub mod Local
 pub mod Run
 pub mod Promise
+pub mod CallPromise

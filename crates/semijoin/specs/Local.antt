@@ -42,7 +42,7 @@ unfoldable pub opened : Envelope → List ℕ → (ℕ → Bool) → List ℕ
 opened e words here = each (λ r. openedAt e words (here r) r) (below (relationCount e))
 
 -- lent marks with these in front
-abbrev pub openedIn : Envelope → List ℕ → (ℕ → Bool) → List ℕ → List ℕ
+unfoldable pub openedIn : Envelope → List ℕ → (ℕ → Bool) → List ℕ → List ℕ
 openedIn e words here marks = sets marks 0 (opened e words here)
 
 -- the envelope is checked, then 10, 11

@@ -20,7 +20,7 @@ use Rattle.tables.specs.Values.{valuesOf}
 unfoldable pub stepped : Envelope → List ℕ → Step → List ℕ → List ℕ
 stepped e words s marks = reducedBy e words (valuesOf e words marks (s .right)) (s .left) marks
 
-abbrev pub steppedAll : Envelope → List ℕ → List Step → List ℕ → List ℕ
+unfoldable pub steppedAll : Envelope → List ℕ → List Step → List ℕ → List ℕ
 steppedAll e words [] marks = marks
 steppedAll e words (s ∷ ss) marks = steppedAll e words ss (stepped e words s marks)
 

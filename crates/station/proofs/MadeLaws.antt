@@ -16,10 +16,10 @@ use Rattle.paths.specs.Meaning.{Row, wordIn}
 use Rattle.tables.specs.Offsets.{countIn}
 use Rattle.tables.specs.Shape.{shaped}
 use Rattle.tables.specs.Values.{risingValues}
-use Rattle.semijoin.specs.Promise.{keptAt, rowOf}
+use Rattle.tables.specs.Rows.{keptAt, rowOf}
 use Rattle.tables.proofs.ShapeLaws.{shaped-shape}
 use Rattle.tables.proofs.RisingLaws.{rising-exact}
-use Rattle.semijoin.proofs.PromiseLaws.{promise}
+use Rattle.tables.proofs.ValueLaws.{values-rise, no-more-values}
 use Rattle.ends.specs.Messages.{valueMessage, rowMessage, counted, soundValues, rowsOf}
 use Rattle.station.specs.Making.{sentRows}
 use Rattle.ends.proofs.MessageLaws.{Wide, value-sound, row-counted, row-rows}
@@ -29,8 +29,8 @@ module _ (e : Envelope) (words marks : List ℕ) (shape : shaped e words ≡ tru
   pub values-sound : (run n : ℕ) (b : Place) → soundValues (valueMessage run n (risingValues e words marks b)) ≡ true
   values-sound run n b =
       value-sound run n (risingValues e words marks b)
-      (omega (arith, promise e .no-more words marks b, shaped-shape e words shape .few (b .relation)))
-      (rising-exact (risingValues e words marks b) .1 (promise e .rises words marks b))
+      (omega (arith, no-more-values e words marks b, shaped-shape e words shape .few (b .relation)))
+      (rising-exact (risingValues e words marks b) .1 (values-rise e words marks b))
 
   module _ (r run : ℕ) where
     wide : Wide (length (keptColumns e r)) (sentRows e words marks r)

@@ -35,7 +35,7 @@ use Rattle.tables.specs.declared.values.Gathered.{Gathered}
 use Rattle.tables.specs.declared.values.Gathered.the-variants as g
 use Rattle.tables.proofs.ShapeLaws.{shaped-shape}
 use Rattle.tables.proofs.CallLaws.{values-narrow, values-length, values-buffer, values-refused, values-stay}
-use Rattle.semijoin.proofs.PromiseLaws.{promise}
+use Rattle.tables.proofs.ValueLaws.{no-more-values}
 use Rattle.ends.specs.Reducing.{stepCount, stepOf, isMissing, firstMissing, missingOf}
 use Rattle.station.specs.Calls.{leaves}
 use Rattle.ends.specs.Ends.{usable, Usable}
@@ -212,7 +212,7 @@ module _ (q : Papers) (x : End) (words marks : List ℕ) (n : ℕ) (out : List �
             omega (
               arith,
               fit .1,
-              promise (q .envelope) .no-more words marks (s .right),
+              no-more-values (q .envelope) words marks (s .right),
               shaped-shape (q .envelope) words (u .shape) .few (s .right .relation),
             )
 

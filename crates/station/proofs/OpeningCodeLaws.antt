@@ -30,7 +30,7 @@ use Rattle.tables.specs.Offsets.{rowCount}
 use Rattle.tables.specs.Shape.{shaped}
 use Rattle.semijoin.specs.Marks.{marksAfter}
 use Rattle.semijoin.specs.Local.{openedIn, openOutcome}
-use Rattle.semijoin.proofs.CallLaws as calls
+use Rattle.semijoin.proofs.CallLaws.{call-promise}
 use Rattle.station.specs.Calls.{leaves}
 use Rattle.ends.specs.Ends.{Marked, startOf, noEnd}
 use Rattle.station.specs.Opening.{hereAt, openWith, openOf, shownOpened, openedMarks}
@@ -86,17 +86,17 @@ module _ (e : Envelope) (within : Within e) (words : List ℕ) (shape : shaped e
   marks-short m p h =
       let found : result ≡ bad m p = refused-is result m p (sym f ∙ h) in
       split (rowCount e words) (length marks)
-      (λ l. absurd (good-bad _ _ m p (sym (calls.open-taken e words here marks within shape l) ∙ found)))
+      (λ l. absurd (good-bad _ _ m p (sym (call-promise .open-taken e words here marks within shape l) ∙ found)))
       (λ l.
-      let short : result ≡ bad tooShort 0 = calls.open-unmarked e words here marks within shape l in
+      let short : result ≡ bad tooShort 0 = call-promise .open-unmarked e words here marks within shape l in
       let same : bad m p ≡ bad tooShort 0 = sym found ∙ short in
-      (l, cc, cc, k ∙ ap (marksAfter marks) short ∙ calls.marks-kept marks tooShort 0))
+      (l, cc, cc, k ∙ ap (marksAfter marks) short ∙ call-promise .marks-kept marks tooShort 0))
 
   marks-opened : v ≡ Taken → (rowCount e words ≤ length marks) × (after ≡ openedIn e words here marks)
   marks-opened h =
       split (rowCount e words) (length marks)
-      (λ l. (l, k ∙ ap (marksAfter marks) (calls.open-taken e words here marks within shape l) ∙ calls.marks-set marks _ 0))
-      (λ l. absurd (good-bad _ _ tooShort 0 (sym (taken-is marks result (sym f ∙ h)) ∙ calls.open-unmarked e words here marks within shape l)))
+      (λ l. (l, k ∙ ap (marksAfter marks) (call-promise .open-taken e words here marks within shape l) ∙ call-promise .marks-set marks _ 0))
+      (λ l. absurd (good-bad _ _ tooShort 0 (sym (taken-is marks result (sym f ∙ h)) ∙ call-promise .open-unmarked e words here marks within shape l)))
 
 -- ---- what is answered
 

@@ -1,6 +1,6 @@
 -- What receiving a message says: where it is taken, its facts; where it is refused, by which number, and that nothing changed.
 use mathlib.Core.Path.{_≡_, refl, ap, sym, _∙_}
-use mathlib.Core.Bool.{true, false, not}
+use mathlib.Core.Bool.{true, false, not, and-false}
 use mathlib.Core.List.{List, [], _∷_, _++_, List·Memᴰ, List·Memᴰ·head, List·Memᴰ·tail, List·Memᴰ·append-cases, Memᴰ·append-left, Memᴰ·append-right}
 use mathlib.Core.Logic.{_⊎_, inl, inr}
 use Prim.Native.Nat.{ℕ, _+_, _≤_, _<_}
@@ -21,8 +21,8 @@ use Rattle.contents.specs.Sites.{isAt}
 use Rattle.contents.specs.Kept.{keptColumns}
 use Rattle.papers.specs.declared.checks.Papers.{Papers}
 use Rattle.semijoin.specs.Marks.{reducedBy}
-use Rattle.semijoin.specs.Promise.{keptAt}
-use Rattle.semijoin.proofs.CallLaws.{none-left}
+use Rattle.tables.specs.Rows.{keptAt}
+use Rattle.semijoin.proofs.PromiseLaws.{promise}
 use Rattle.ends.specs.Reducing.{stepCount, stepOf, placeOf}
 use Rattle.station.specs.Calls.{leaves}
 use Rattle.ends.specs.Ends.{Marked, appliedOf, hasArrived, usable, Usable}
@@ -90,7 +90,9 @@ module _ (q : Papers) (x : End) (words marks m : List ℕ) (n : ℕ) where
 -- an empty value message removes every row
 pub none-kept : (q : Papers) (x : End) (words marks m : List ℕ) (n : ℕ) (y : End) (after : List ℕ) → StepTaken q x words marks m n y after
     → bodyOf m ≡ [] → (i : ℕ) → keptAt (q .envelope) words after (stepOf (q .program) n .left .relation) i ≡ false
-none-kept q x words marks m n y after t empty i = rw (t .marked, empty) (none-left (q .envelope) (stepOf (q .program) n .left) words marks i)
+none-kept q x words marks m n y after t empty i =
+    let a = stepOf (q .program) n .left in
+    rw (t .marked, empty) (promise (q .envelope) .exactly words [] marks a i ∙ and-false (keptAt (q .envelope) words marks (a .relation) i))
 
 -- ---- the rows of a relation
 

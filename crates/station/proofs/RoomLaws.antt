@@ -21,11 +21,11 @@ use Rattle.contents.specs.declared.envelope.Envelope.{Envelope}
 use Rattle.entries.specs.Places.{place}
 use Rattle.tables.specs.Offsets.{countIn, firstWord}
 use Rattle.tables.specs.Shape.{shaped}
-use Rattle.semijoin.specs.Promise.{keptAt, SameRows}
+use Rattle.tables.specs.Rows.{keptAt, SameRows}
 use Rattle.ground.proofs.SumLaws.{sum-none, sum-below}
 use Rattle.tables.proofs.OffsetLaws.{first-none, first-more}
 use Rattle.tables.proofs.ShapeLaws.{shaped-shape}
-use Rattle.semijoin.proofs.PromiseLaws.{promise}
+use Rattle.tables.proofs.RowLaws.{same-counts}
 use Rattle.ends.specs.Ends.{hasArrived}
 use Rattle.ends.specs.Messages.{frontLength, rowMessage}
 use Rattle.station.specs.Making.{sentRows}
@@ -51,7 +51,7 @@ module _ (e : Envelope) (whole : List ℕ) where
         arith,
         filter-length (keptAt e words marks r) (below (countIn e words r)),
         below-length (countIn e words r),
-        promise e .same-counts words whole r same,
+        same-counts e words whole r same,
       ) in
       omega (arith, message-long e words marks r run, mul-le-mul rows (few-columns e r))
 

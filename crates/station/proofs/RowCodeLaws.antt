@@ -16,10 +16,9 @@ use Rattle.contents.specs.Kept.{keptColumns}
 use Rattle.contents.specs.declared.envelope.Envelope.{Envelope}
 use Rattle.paths.specs.Meaning.{Row, wordIn}
 use Rattle.tables.specs.Offsets.{countIn}
-use Rattle.tables.specs.Rows.{wordOver, keptOver}
-use Rattle.semijoin.specs.Promise.{rowOf, keptAt}
+use Rattle.tables.specs.Rows.{wordOver, keptOver, rowOf, keptAt}
 use Rattle.tables.specs.declared.offsets.Extent.{Extent}
-use Rattle.semijoin.proofs.PromiseLaws.{promise}
+use Rattle.tables.proofs.RowLaws.{kept-are}
 use Rattle.ends.specs.Messages.{rowMessage}
 use Rattle.station.specs.Making.{sentRows}
 use Rattle.ends.proofs.CountingLaws.{Counting, counting-yes, counting-no, counting-less}
@@ -133,7 +132,7 @@ module _ (e : Envelope) (words marks : List ℕ) (r : ℕ) where
   pub sent-by : sentRows e words marks r ≡ map rowWords chosen
   unfolding sentRows
   sent-by =
-      ap (map (λ (row : Row). map (wordIn row) (keptColumns e r))) (promise e .kept-are words marks r)
+      ap (map (λ (row : Row). map (wordIn row) (keptColumns e r))) (kept-are e words marks r)
       ∙ map-map chosen
     where
       map-map : (l : List ℕ) → map (λ (row : Row). map (wordIn row) (keptColumns e r)) (map (rowOf e words r) l) ≡ map rowWords l

@@ -31,11 +31,10 @@ use Rattle.papers.specs.declared.checks.PapersRead.{PapersRead}
 use Rattle.tables.specs.Offsets.{countIn, rowCount}
 use Rattle.tables.specs.Shape.{shaped}
 use Rattle.tables.specs.Offsets.{extentOf}
-use Rattle.tables.specs.Rows.{wordOver, keptOver}
-use Rattle.semijoin.specs.Promise.{keptAt}
+use Rattle.tables.specs.Rows.{wordOver, keptOver, keptAt}
 use Rattle.tables.specs.declared.offsets.Extent.{Extent}
 use Rattle.tables.proofs.ShapeLaws.{shaped-shape, columns-most}
-use Rattle.semijoin.proofs.CallLaws.{word-by, kept-by}
+use Rattle.tables.proofs.RowLaws.{word-by, kept-by}
 use Rattle.ends.specs.Reducing.{stepCount}
 use Rattle.ends.specs.Ends.{usable}
 use Rattle.ends.specs.Messages.{rowMessage}

@@ -31,8 +31,7 @@ use Rattle.tables.specs.Rising.{isRising}
 use Rattle.semijoin.specs.Marks.{reducedBy, reduceOutcome, reducedOf, marksAfter}
 use Rattle.semijoin.specs.declared.marks.Reduced.{Reduced}
 use Rattle.semijoin.specs.declared.marks.Reduced.the-variants as r
-use Rattle.semijoin.proofs.CallLaws.{reduce-falling, reduce-rows, reduce-marks, reduce-refused, reduce-stay}
-use Rattle.tables.proofs.RisingLaws.{rising-exact}
+use Rattle.semijoin.proofs.CallLaws.{call-promise}
 use Rattle.ends.specs.Reducing.{stepCount, stepOf, placeOf}
 use Rattle.station.specs.Calls.{leaves}
 use Rattle.ends.specs.Ends.{Marked, Usable}
@@ -132,27 +131,36 @@ module _ (m by : List ℕ) (p : by ≡ drop 3 m) (place done : ℕ) (b : Bool) (
 module _ (e : Envelope) (words : List ℕ) (shape : shaped e words ≡ true) (marks : List ℕ) (room : rowCount e words ≤ length marks) (a : Place)
     (here : isPlace e a ≡ true) (by : List ℕ) (n : ℕ) (y : Reduced) (after : List ℕ)
     (f : y ≡ reducedOf n (reduceOutcome e words by a marks)) (k : after ≡ marksAfter marks (reduceOutcome e words by a marks)) where
+  abbrev result : Outcome (List ℕ)
+  result = reduceOutcome e words by a marks
+
+  taken : isRising by ≡ true → result ≡ good (reducedBy e words by a marks) 0
+  taken t = call-promise .reduce-taken e words by a marks shape room here t
+
+  falls : isRising by ≡ false → result ≡ bad notSound 0
+  falls t = call-promise .reduce-falling e words by a marks shape room here t
+
   reduce-falls : (m p : ℕ) → y ≡ r.Refused m p → (isRising by ≡ false) × (m ≡ notSound) × (p ≡ 0) × (after ≡ marks)
   reduce-falls m p h = go (isRising by) refl
     where
       go : (b : Bool) → isRising by ≡ b → (isRising by ≡ false) × (m ≡ notSound) × (p ≡ 0) × (after ≡ marks)
       go true t =
-          let same : r.Removed n ≡ r.Refused m p = sym (reduce-rows e a words by marks shape room here (rising-exact by .0 t) n) ∙ sym f ∙ h in
+          let same : r.Removed n ≡ r.Refused m p =
+          sym (call-promise .answers-removed n _ 0) ∙ ap (reducedOf n) (sym (taken t)) ∙ sym f ∙ h in
           let z : _≡_ {A = ℕ} 0 1 = cc in
           absurd (never z)
       go false t =
-          let falls = reduce-falling e a words by marks shape room here t in
-          let same : r.Refused m p ≡ r.Refused notSound 0 = sym h ∙ f ∙ reduce-refused e a words by marks notSound 0 falls n in
-          (t, cc, cc, k ∙ reduce-stay e a words by marks notSound 0 falls)
+          let same : r.Refused m p ≡ r.Refused notSound 0 = sym h ∙ f ∙ ap (reducedOf n) (falls t) ∙ call-promise .answers-refused n notSound 0 in
+          (t, cc, cc, k ∙ ap (marksAfter marks) (falls t) ∙ call-promise .marks-kept marks notSound 0)
 
   reduce-rises : (i : ℕ) → y ≡ r.Removed i → (isRising by ≡ true) × (after ≡ reducedBy e words by a marks)
   reduce-rises i h = go (isRising by) refl
     where
       go : (b : Bool) → isRising by ≡ b → (isRising by ≡ true) × (after ≡ reducedBy e words by a marks)
-      go true t = (t, k ∙ reduce-marks e a words by marks shape room here (rising-exact by .0 t))
+      go true t = (t, k ∙ ap (marksAfter marks) (taken t) ∙ call-promise .marks-set marks _ 0)
       go false t =
-          let falls = reduce-falling e a words by marks shape room here t in
-          let same : r.Refused notSound 0 ≡ r.Removed i = sym (reduce-refused e a words by marks notSound 0 falls n) ∙ sym f ∙ h in
+          let same : r.Refused notSound 0 ≡ r.Removed i =
+          sym (call-promise .answers-refused n notSound 0) ∙ ap (reducedOf n) (sym (falls t)) ∙ sym f ∙ h in
           let z : _≡_ {A = ℕ} 0 1 = cc in
           absurd (never z)
 

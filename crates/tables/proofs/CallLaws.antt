@@ -1,25 +1,30 @@
 -- What the calls on tables give: each refusal where it is due, and the effect where none is. The floors above go by these and
 -- unfold nothing.
 use mathlib.Core.Path.{_≡_, refl, _∙_}
-use mathlib.Core.Bool.{true, false, not}
+use mathlib.Core.Bool.{true, false, not, _&&_}
 use mathlib.Core.List.{List, [], _∷_, _++_, List·Memᴰ}
+use mathlib.Core.Logic.{_↔_}
 use Prim.Native.Nat.{ℕ, _+_, _≤_, _<_}
 use lib.ListN.{length}
 use lib.Seq.{sets}
-use borrow.Author.Tests.{le-leb, lt-ltb, le-ltb}
+use lib.Dec.{leb}
+use borrow.Author.Tests.{leb-true, le-leb, lt-ltb, le-ltb}
 use Rattle.ground.specs.Outcome.{Outcome}
 use Rattle.ground.specs.Outcome.Outcome.{good, bad}
 use Rattle.ground.specs.Refusing.{Test, test, judged}
 use Rattle.ground.proofs.RefusingLaws.{refusal-listed}
+use Rattle.ground.proofs.TestLaws.{and-left, and-right, and-both}
 use Rattle.fields.specs.Refusals.{wrongShape, tooShort, notOurs}
 use Rattle.entries.specs.declared.places.Place.{Place}
 use Rattle.contents.specs.declared.envelope.Envelope.{Envelope}
 use Rattle.paths.specs.Steps.{isPlace}
 use Rattle.tables.specs.Offsets.{rowCount}
 use Rattle.tables.specs.Shape.{shaped, marksTests, columnTests}
+use Rattle.tables.specs.Rows.{wordOf, keptAt}
 use Rattle.tables.specs.Rising.{among}
 use Rattle.tables.specs.Values.{valuesOf, risingValues, occursIn, roomTest, valuesOutcome, gatheredOf, gatheredIn}
 use Rattle.tables.specs.declared.values.Gathered.the-variants as g
+use Rattle.tables.proofs.ValueLaws.{values-are}
 
 -- ---- a call that begins with 10, 11: of any tests and effect behind them
 
@@ -101,3 +106,21 @@ module _ (e : Envelope) (a : Place) (words marks : List ℕ) (x : ℕ) where
       → occursIn e words marks a x ≡ among (valuesOf e words marks a) x
   unfolding occursIn
   occurs-there s h c = rw (s, le-leb (rowCount e words) (length marks) h, c)
+
+  -- and it occurs exactly where they are right and some kept row has it
+  pub occurs-exact : (occursIn e words marks a x ≡ true)
+      ↔ ((shaped e words ≡ true) × (rowCount e words ≤ length marks) × (isPlace e a ≡ true)
+      × ((i : ℕ) × (keptAt e words marks (a .relation) i ≡ true) × (wordOf e words a i ≡ x)))
+  unfolding occursIn
+  occurs-exact = (
+    λ t.
+        let three = and-left _ _ t in
+        let two = and-left _ _ three in (
+          and-left _ _ two,
+          leb-true _ _ (and-right (shaped e words) _ two),
+          and-right (shaped e words && leb (rowCount e words) (length marks)) _ three,
+          values-are e words marks a x .0 (and-right (shaped e words && leb (rowCount e words) (length marks) && isPlace e a) _ t),
+        ),
+    λ (s, h, c, some).
+        and-both (and-both (and-both s (le-leb _ _ h)) c) (values-are e words marks a x .1 some),
+  )

@@ -9,6 +9,8 @@ pub mod OffsetCodeLaws
 pub mod RowCodeLaws
 pub mod RisingCodeLaws
 pub mod ValueCodeLaws
+pub mod ValueLaws
+pub mod TidyLaws
 pub mod GatherCodeLaws
 pub mod CallLaws
 pub mod Examples

@@ -4,18 +4,22 @@ use mathlib.Core.Bool.{Bool, true, false, false≢true}
 use mathlib.Core.List.{List, [], _∷_, map, List·Memᴰ, List·Memᴰ·head, List·Memᴰ·tail, List·Memᴰ·cases-cons}
 use mathlib.Core.Logic.{_⊎_, inl, inr}
 use Prim.Native.Nat.{ℕ, zero, suc, _+_, _*_, _≤_, _<_, zero-le, suc-le-suc}
-use native.Mathlib.Nat.{le-of-suc-le-suc, not-suc-le-zero, add-zero, mul-le-mul-right, suc-mul}
+use native.Mathlib.Nat.{le-of-suc-le-suc, not-suc-le-zero, zero-add, add-zero, mul-le-mul-right, suc-mul}
 use native.Mathlib.Omega.{arith}
 use lib.ListN.{length, getD, take, drop}
 use lib.Seq.{drop-drop, getD-take, getD-drop}
 use Rattle.ground.specs.Tests.{pick}
-use Rattle.ground.specs.Lists.{consIf, filter, numbersFrom}
+use Rattle.ground.specs.Lists.{consIf, filter, below, numbersFrom}
+use Rattle.ground.proofs.CountLaws.{split}
+use Rattle.ground.proofs.UsedLaws.{used-outside}
+use Rattle.entries.specs.declared.places.Place.{Place}
+use Rattle.contents.specs.declared.envelope.Envelope.{Envelope}
 use Rattle.paths.specs.Meaning.{Row, Table, wordIn}
-use Rattle.tables.specs.Offsets.{rowsOver, marksOver}
-use Rattle.tables.specs.Rows.{isKept, keptOf}
+use Rattle.tables.specs.Offsets.{countIn, firstMark, extentOf, rowsOver, marksOver, rowsAt, marksAt}
+use Rattle.tables.specs.Rows.{isKept, wordOver, keptOver, rowOf, wordOf, keptAt, SameRows, keptOf, keptRows}
 use Rattle.tables.specs.declared.offsets.Extent.{Extent}
 use Rattle.ground.proofs.ListPartLaws.{part-length, part-getD}
-use Rattle.tables.proofs.OffsetLaws.{rows-length, rows-at}
+use Rattle.tables.proofs.OffsetLaws.{rows-length, rows-at, rowsAt-length}
 
 -- ---- one row's word and mark
 
@@ -133,3 +137,38 @@ kept-test p (row ∷ t) = go (p row) (kept-test p t)
     go : (b : Bool) → keptOf rest t ≡ filter p t → consIf (isKept (pick b 1 0)) row (keptOf rest t) ≡ consIf b row (filter p t)
     go true e = rw e
     go false e = e
+
+-- ---- the rows of a relation, by their numbers
+
+module _ (e : Envelope) where
+  pub past-last : (words marks : List ℕ) (r i : ℕ) → countIn e words r ≤ i → getD (marksAt e words r marks) i 0 ≡ 0
+  unfolding marksAt marksOver
+  past-last words marks r i h = used-outside (drop (firstMark e words r) marks) (countIn e words r) i 0 h
+
+  -- a row that is kept is one of the relation's rows
+  pub kept-inside : (words marks : List ℕ) (r i : ℕ) → keptAt e words marks r i ≡ true → i < countIn e words r
+  kept-inside words marks r i t =
+      split (countIn e words r) i (λ h. absurd (false≢true (rw (past-last words marks r i h) at t))) (λ h. h)
+
+  -- tables with the same rows of a relation have as many
+  pub same-counts : (words others : List ℕ) (r : ℕ) → SameRows e r words others → countIn e words r ≡ countIn e others r
+  same-counts words others r same = sym (rowsAt-length e words r) ∙ ap length same ∙ rowsAt-length e others r
+
+  -- the kept rows of a relation are those of its rows that are kept, in table order
+  pub kept-are : (words marks : List ℕ) (r : ℕ)
+      → keptRows e words marks r ≡ map (rowOf e words r) (filter (keptAt e words marks r) (below (countIn e words r)))
+  unfolding keptRows
+  kept-are words marks r =
+      kept-numbers (marksAt e words r marks) (rowsAt e words r) 0 (rowOf e words r) (keptAt e words marks r)
+      (λ i. ap (rowOf e words r) (zero-add i)) (λ i. ap (keptAt e words marks r) (zero-add i))
+      ∙ ap (λ (n : ℕ). map (rowOf e words r) (filter (keptAt e words marks r) (below n))) (rowsAt-length e words r)
+
+-- one row, by its relation's extent
+module _ (e : Envelope) (words : List ℕ) (x : Extent) (i : ℕ) where
+  pub word-by : (a : Place) → x ≡ extentOf e words (a .relation) → (w : ℕ) → w ≡ wordOver x words i (a .column) → w ≡ wordOf e words a i
+  unfolding rowsAt
+  word-by a f w g = g ∙ ap (λ (y : Extent). wordOver y words i (a .column)) f
+
+  pub kept-by : (r : ℕ) → x ≡ extentOf e words r → (marks : List ℕ) (b : Bool) → b ≡ keptOver x marks i → b ≡ keptAt e words marks r i
+  unfolding marksAt
+  kept-by r f marks b g = g ∙ ap (λ (y : Extent). keptOver y marks i) f

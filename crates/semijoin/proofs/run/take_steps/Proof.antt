@@ -36,7 +36,7 @@ array-copy-out-step c = search needs
 take-step-requires : tie.Need-take-step-requires Inv-loop μ-loop
 take-step-requires c κs =
     let s = c .before .before .before .before .before .before .before in
-    let r = taking-legal (s .args .envelope) (s .args .tables .now) (s .args .t2) (s .args .n) (s .args .marks .now) _ (omega arith) (c .before .before .before .before .in-use .ensures) _ _ (c .before .before .before .loop .inv) (c .before .before .loop-test .taken) (s .pre .2) in
+    let r = taking-legal (s .args .envelope) (s .args .tables .now) (s .args .t2) (s .args .n) (s .args .marks .now) (omega arith) _ _ (c .before .before .before .loop .inv) (omega (arith, c .before .before .before .before .in-use .ensures)) (s .pre .2) in
     (search needs, search needs, r .left, r .right)
 
 -- src/run.rt:30:9
@@ -51,7 +51,7 @@ loop-less c = omega arith
 loop-again : tie.Need-loop-again Inv-loop μ-loop
 loop-again c =
     let s = c .before .before .before .before .before .before .before .before .before .before in
-    taking-more (s .args .envelope) (s .args .tables .now) (s .args .t2) (s .args .n) (s .args .marks .now) _ (omega arith) (c .before .before .before .before .before .before .before .in-use .ensures) _ _ (c .before .before .before .before .before .before .loop .inv) (c .before .before .before .before .before .loop-test .taken) _ (c .before .before .take-step .ensures)
+    taking-more (s .args .envelope) (s .args .tables .now) (s .args .t2) (s .args .n) (s .args .marks .now) (omega arith) _ _ (c .before .before .before .before .before .before .loop .inv) (omega (arith, c .before .before .before .before .before .before .before .in-use .ensures)) _ (c .before .before .take-step .ensures)
 
 -- src/run.rt:21:1
 same-length : tie.Need-same-length Inv-loop μ-loop
@@ -61,7 +61,7 @@ same-length c = omega arith
 returns : tie.Need-returns Inv-loop μ-loop
 returns c =
     let s = c .before .before .before .before .before in
-    taking-done (s .args .envelope) (s .args .tables .now) (s .args .t2) (s .args .n) (s .args .marks .now) _ (omega arith) (c .before .before .in-use .ensures) _ _ (c .before .loop .inv) (c .loop-test .left)
+    taking-done (s .args .envelope) (s .args .tables .now) (s .args .t2) (s .args .n) (s .args .marks .now) (omega arith) _ _ (c .before .loop .inv) (omega (arith, c .before .before .in-use .ensures))
 
 pub take-steps-spec : {M : Type 1} → statement M
 take-steps-spec =
