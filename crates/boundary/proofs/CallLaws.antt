@@ -1,45 +1,28 @@
--- What all calls share: where what comes first is refused, so is the call, and what was lent stays; else the call is what comes
--- after.
-use mathlib.Core.Path.{_≡_, refl, sym, ap, _∙_}
-use mathlib.Core.List.{List}
+-- What all calls share: what is said of a call's outcome is said of what it comes to, which is the refusal of what comes first, or
+-- what comes after.
+use mathlib.Core.Path.{_≡_, refl}
 use Prim.Native.Nat.{ℕ}
-use Rattle.ground.specs.Outcome.{Outcome, next, verdictOf, nextOf}
+use Rattle.ground.specs.Outcome.{Outcome, next, verdictOf}
 use Rattle.ground.specs.Outcome.Outcome.{good, bad}
-use Rattle.semijoin.specs.Marks.{marksAfter}
-use Rattle.semijoin.proofs.CallLaws.{call-promise}
-use Rattle.answerer.specs.Answer.{answeredOf, answeredIn}
+use Rattle.ground.specs.declared.Verdict.the-variants.{Taken}
+use Rattle.ground.proofs.OutcomeLaws.{never}
 use Rattle.station.specs.Calls.{leaves}
-use Rattle.station.specs.Making.{shownMade, madeIn}
-use Rattle.boundary.specs.Answers.{answerWord, verdictWord, madeWord, answeredWord}
 
-module _ {A B : Type 0} (o : Outcome A) (k : A → ℕ → Outcome B) where
-  pub next-refused : (m u : ℕ) → o ≡ bad m u → next o k ≡ bad m u
-  next-refused m u e = ap (λ (o : Outcome A). next o k) e
+module _ {A B : Type 0} (o : Outcome A) (k : A → ℕ → Outcome B) (Said : Outcome B → Type 0) where
+  pub refused-says : (m u : ℕ) → o ≡ bad m u → Said (bad m u) → Said (next o k)
+  refused-says m u e h = rw e h
 
-  pub next-taken : (a : A) (u : ℕ) → o ≡ good a u → next o k ≡ k a u
-  next-taken a u e = ap (λ (o : Outcome A). next o k) e
+  pub taken-says : (a : A) (u : ℕ) → o ≡ good a u → Said (k a u) → Said (next o k)
+  taken-says a u e h = rw e h
 
--- what a refusal says, and what it leaves
-module _ (m u r : ℕ) (e : r ≡ answerWord m u) where
-  pub verdict-said : {B : Type 0} (o : Outcome B) → o ≡ bad m u → r ≡ verdictWord (verdictOf o)
-  unfolding verdictOf verdictWord
-  verdict-said o found = rw found e
-
-  pub made-said : (o : Outcome (List ℕ)) → o ≡ bad m u → r ≡ madeWord (shownMade o)
-  unfolding shownMade madeWord
-  made-said o found = rw found e
-
-  pub answered-said : (o : Outcome (List ℕ)) → o ≡ bad m u → r ≡ answeredWord (answeredOf o)
-  unfolding answeredOf answeredWord
-  answered-said o found = rw found e
-
+-- a refusal leaves what came in
 pub leaves-same : {B C : Type 0} (made : B → C) (before : C) (o : Outcome B) (m u : ℕ) → o ≡ bad m u → before ≡ leaves made before o
 unfolding leaves
 leaves-same made before o m u found = rw found refl
 
-pub marks-same : (marks : List ℕ) (o : Outcome (List ℕ)) (m u : ℕ) → o ≡ bad m u → marks ≡ marksAfter marks o
-marks-same marks o m u found = rw found (sym (call-promise .marks-kept marks m u))
-
-pub answered-same : (out : List ℕ) (o : Outcome (List ℕ)) (m u : ℕ) → o ≡ bad m u → out ≡ answeredIn out o
-unfolding answeredIn
-answered-same out o m u found = rw found refl
+-- what is left of the end that a taken call gives is what the call leaves of it
+pub leaves-taken : {A B C : Type 0} (f : B → C) (made : A → B) (x : B) (before : C) (o : Outcome A) → verdictOf o ≡ Taken
+    → f (leaves made x o) ≡ leaves (λ (a : A). f (made a)) before o
+unfolding leaves verdictOf
+leaves-taken f made x before (good a u) w = refl
+leaves-taken f made x before (bad m u) w = let z : _≡_ {A = ℕ} 0 1 = cc in absurd (never z)

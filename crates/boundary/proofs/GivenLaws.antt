@@ -3,8 +3,7 @@ use mathlib.Core.Path.{_≡_, refl, sym, ap, _∙_}
 use mathlib.Core.Bool.{Bool, true, false}
 use mathlib.Core.List.{List, [], _∷_}
 use Prim.Native.Nat.{ℕ, _≤_, _<_}
-use lib.ListN.{length, replicate}
-use lib.Dec.{ltb}
+use lib.ListN.{length}
 use borrow.Author.Tests.{lt-ltb, le-ltb}
 use Rattle.ground.specs.Tests.{pick}
 use Rattle.ground.specs.Outcome.{Outcome, next, verdictOf, valueOf, nextOf}
@@ -19,7 +18,7 @@ use Rattle.contents.specs.declared.envelope.Envelope.{Envelope}
 use Rattle.envelopes.specs.declared.reading.EnvelopeRead.{EnvelopeRead}
 use Rattle.envelopes.proofs.ReadingLaws.{read-taken, read-refused}
 use Rattle.papers.specs.Programs.{readProgram, shownProgram}
-use Rattle.papers.specs.Checks.{noPapers, shownPapers}
+use Rattle.papers.specs.Checks.{shownPapers}
 use Rattle.papers.specs.declared.programs.Program.{Program}
 use Rattle.papers.specs.declared.programs.ProgramRead.{ProgramRead}
 use Rattle.papers.specs.declared.checks.Papers.{Papers}
@@ -28,15 +27,11 @@ use Rattle.papers.proofs.ProgramCodeLaws.{program-taken, program-refused}
 use Rattle.papers.proofs.CheckLaws.{papers-taken, papers-refused}
 use Rattle.ends.specs.Ends.{noEnd}
 use Rattle.ends.specs.declared.ends.End.{End}
-use Rattle.boundary.specs.States.{unclear, endOf, appliedIn, arrivedIn}
+use Rattle.boundary.specs.States.{unclear, endOf}
 use Rattle.boundary.specs.Given.{papersIn, endIn, shownEnd}
 use Rattle.boundary.specs.declared.given.EndRead.{EndRead}
 
 -- ---- papers
-
-pub papers-empty : (m u : ℕ) (q : Papers) → q ≡ noPapers → record { verdict = Refused m u; papers = q } ≡ shownPapers (bad m u)
-unfolding verdictOf valueOf
-papers-empty m u q e = rw e refl
 
 module _ (e p : List ℕ) (c : EnvelopeRead) (g : c ≡ shownEnvelope (readEnvelope e)) where
   abbrev rest : Envelope → Outcome Papers
@@ -69,14 +64,9 @@ module _ (e p : List ℕ) (c : EnvelopeRead) (g : c ≡ shownEnvelope (readEnvel
 
 -- ---- ends
 
-end-zeros : endOf noPapers (replicate 19 0) ≡ noEnd
-unfolding endOf appliedIn arrivedIn
-end-zeros = refl
-
-pub end-none : (m u : ℕ) (q : Papers) (x : End) → q ≡ noPapers → x ≡ endOf q (replicate 19 0)
-    → record { verdict = Refused m u; end = x } ≡ shownEnd (bad m u)
+pub end-none : (m u : ℕ) (x : End) → x ≡ noEnd → record { verdict = Refused m u; end = x } ≡ shownEnd (bad m u)
 unfolding shownEnd verdictOf valueOf
-end-none m u q x e f = rw (f, e, end-zeros) refl
+end-none m u x e = rw e refl
 
 pub end-taken : (o : Outcome End) (z : EndRead) → z ≡ shownEnd o → z .verdict ≡ Taken → o ≡ good (z .end) (nextOf o)
 unfolding shownEnd

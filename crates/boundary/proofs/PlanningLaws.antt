@@ -1,21 +1,18 @@
 -- The laws of the calls that plan and estimate: the loops over lines, and each return.
 use mathlib.Core.Path.{_≡_, refl, sym, ap, _∙_}
-use mathlib.Core.List.{List, [], _∷_, _++_, map, append-nil}
+use mathlib.Core.List.{List, [], _∷_, _++_, append-nil}
 use Prim.Native.Nat.{ℕ, suc, _+_, _*_, _≤_, _<_, _%_, _/_, min}
-use native.Mathlib.Nat.{add-zero, mul-suc}
 use native.Mathlib.Numerals.{add-one}
 use native.Mathlib.Omega.{arith}
 use lib.ListN.{length, getD, take, drop, set, length-append, length-map, length-take, drop-of-length-le}
 use lib.Seq.{sets, sets-eq, take-all}
-use borrow.Author.Tests.{lt-ltb, le-ltb}
 use Rattle.ground.specs.Lists.{each}
-use Rattle.ground.specs.Outcome.{Outcome, next, verdictOf, nextOf}
-use Rattle.ground.specs.Outcome.Outcome.{good, bad}
+use Rattle.ground.specs.Outcome.{Outcome}
 use Rattle.ground.specs.declared.Verdict.{Verdict}
 use Rattle.ground.specs.declared.Verdict.the-variants.{Taken, Refused}
 use Rattle.ground.proofs.ListLaws.{getD-map}
 use Rattle.ground.proofs.PuttingLaws.{Copying, copying-more, copying-done, sets-append}
-use Rattle.ground.proofs.WritingLaws.{Writing, writing-more, writing-place, writing-done}
+use Rattle.ground.proofs.WritingLaws.{Writing, writing-more}
 use Rattle.fields.specs.Refusals.{tooShort}
 use Rattle.fields.specs.Puts.{writtenOf, writtenIn, Puts}
 use Rattle.fields.specs.declared.puts.Written.{Written}
@@ -43,7 +40,7 @@ use Rattle.station.specs.declared.making.Made.the-variants as made
 use Rattle.boundary.specs.Answers.{answerWord, writtenWord, madeWord}
 use Rattle.boundary.specs.Given.{papersIn}
 use Rattle.boundary.specs.Planning.{stepsIn, programOf, programFor, planned, pairOf, lineWords, estimateWords, unless, estimateWith, estimateFrom}
-use Rattle.boundary.proofs.CallLaws.{next-refused, next-taken, made-said, leaves-same}
+use Rattle.boundary.proofs.CallLaws.{refused-says, taken-says}
 
 -- ---- the steps of a plan's lines
 
@@ -83,23 +80,25 @@ program-is s x steps e f = rw f (ap programOf e)
 -- ---- planning
 
 module _ (s out : List ℕ) (c : EnvelopeRead) (g : c ≡ shownEnvelope (readEnvelope s)) where
-  abbrev Plans : ℕ → List ℕ → Type 0
-  Plans r after =
-      (r ≡ writtenWord (writtenOf (planned s) (programBytes (programFor s)) out))
-      × (after ≡ writtenIn (planned s) (programBytes (programFor s)) out)
+  abbrev Plans : ℕ → List ℕ → Outcome Program → Type 0
+  Plans r after o =
+      (r ≡ writtenWord (writtenOf o (programBytes (programFor s)) out)) × (after ≡ writtenIn o (programBytes (programFor s)) out)
 
-  pub plan-refused : (m u r : ℕ) → c .verdict ≡ Refused m u → r ≡ answerWord m u → Plans r out
+  abbrev planning : Envelope → Outcome Program
+  planning e = checkProgram e (programFor s)
+
+  pub plan-refused : (m u r : ℕ) → c .verdict ≡ Refused m u → r ≡ answerWord m u → Plans r out (planned s)
   unfolding writtenOf writtenIn writtenWord planned
   plan-refused m u r t k =
-      let found = next-refused (readEnvelope s) (λ e _. checkProgram e (programFor s)) m u (read-refused (readEnvelope s) c m u g t) in
-      (rw found k, rw found refl)
+      refused-says (readEnvelope s) (λ e _. planning e) (Plans r out) m u (read-refused (readEnvelope s) c m u g t) (k, refl)
 
   pub plan-taken : c .verdict ≡ Taken → (h : Program) (v : Written) (after : List ℕ) (r : ℕ) → h ≡ programFor s
-      → (v ≡ programWritten (c .envelope) h out) × (after ≡ programWrittenIn (c .envelope) h out) → r ≡ writtenWord v → Plans r after
+      → (v ≡ programWritten (c .envelope) h out) × (after ≡ programWrittenIn (c .envelope) h out) → r ≡ writtenWord v
+      → Plans r after (planned s)
   unfolding planned
   plan-taken t h v after r e l k =
-      let found = next-taken (readEnvelope s) (λ e _. checkProgram e (programFor s)) (c .envelope) _ (read-taken (readEnvelope s) c g t) in
-      rw (found, ← e) (k ∙ ap writtenWord (l .0), l .1)
+      taken-says (readEnvelope s) (λ e _. planning e) (Plans r after) (c .envelope) _ (read-taken (readEnvelope s) c g t)
+      (rw (← e) (k ∙ ap writtenWord (l .0), l .1))
 
 -- ---- words put
 
@@ -194,24 +193,22 @@ unfolding estimateWith unless shownMade leaves
 estimate-none x out m u t = rw t (refl, refl)
 
 module _ (e p out : List ℕ) (c : PapersRead) (g : c ≡ shownPapers (papersIn e p)) where
-  abbrev Costs : ℕ → List ℕ → Type 0
-  Costs r after = (r ≡ madeWord (shownMade (estimateFrom e p (length out)))) × (after ≡ madeIn out (estimateFrom e p (length out)))
+  abbrev Costs : ℕ → List ℕ → Outcome (List ℕ) → Type 0
+  Costs r after o = (r ≡ madeWord (shownMade o)) × (after ≡ madeIn out o)
 
   abbrev costing : Papers → Outcome (List ℕ)
   costing q = estimateWith (estimateOf (checkEnvelope (q .envelope)) (checkProgram (q .envelope) (q .program))) (length out)
 
-  pub estimate-refused : (m u r : ℕ) → c .verdict ≡ Refused m u → r ≡ answerWord m u → Costs r out
-  unfolding estimateFrom
+  pub estimate-refused : (m u r : ℕ) → c .verdict ≡ Refused m u → r ≡ answerWord m u → Costs r out (estimateFrom e p (length out))
+  unfolding estimateFrom shownMade madeWord leaves
   estimate-refused m u r t k =
-      let found = next-refused (papersIn e p) (λ q _. costing q) m u (papers-refused (papersIn e p) c m u g t) in
-      (made-said m u r k _ found, leaves-same (sets out 0) out _ m u found)
+      refused-says (papersIn e p) (λ q _. costing q) (Costs r out) m u (papers-refused (papersIn e p) c m u g t) (k, refl)
 
   pub estimate-taken : c .verdict ≡ Taken → (x : Estimate) (z : Made) (after : List ℕ) (r : ℕ)
       → x ≡ estimateOf (checkEnvelope (c .papers .envelope)) (checkProgram (c .papers .envelope) (c .papers .program))
-      → (z ≡ shownMade (estimateWith x (length out))) × (after ≡ madeIn out (estimateWith x (length out))) → r ≡ madeWord z → Costs r after
+      → (z ≡ shownMade (estimateWith x (length out))) × (after ≡ madeIn out (estimateWith x (length out))) → r ≡ madeWord z
+      → Costs r after (estimateFrom e p (length out))
   unfolding estimateFrom
   estimate-taken t x z after r f l k =
-      let found : estimateFrom e p (length out) ≡ estimateWith x (length out) =
-      next-taken (papersIn e p) (λ q _. costing q) (c .papers) _ (papers-taken (papersIn e p) c g t)
-      ∙ ap (λ (y : Estimate). estimateWith y (length out)) (sym f) in
-      (k ∙ ap madeWord (l .0) ∙ ap (λ (o : Outcome (List ℕ)). madeWord (shownMade o)) (sym found), l .1 ∙ ap (madeIn out) (sym found))
+      taken-says (papersIn e p) (λ q _. costing q) (Costs r after) (c .papers) _ (papers-taken (papersIn e p) c g t)
+      (rw (← f) (k ∙ ap madeWord (l .0), l .1))

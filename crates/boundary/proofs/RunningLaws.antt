@@ -1,15 +1,16 @@
 -- The returns of the calls on tables of every relation.
-use mathlib.Core.Path.{_≡_, refl, sym, ap, _∙_}
+use mathlib.Core.Path.{_≡_, refl, ap, _∙_}
 use mathlib.Core.List.{List}
 use Prim.Native.Nat.{ℕ}
-use Rattle.ground.specs.Outcome.{Outcome, next, verdictOf, nextOf}
-use Rattle.ground.specs.Outcome.Outcome.{good, bad}
+use Rattle.ground.specs.Outcome.{Outcome, verdictOf}
 use Rattle.ground.specs.declared.Verdict.{Verdict}
 use Rattle.ground.specs.declared.Verdict.the-variants.{Taken, Refused}
 use Rattle.envelopes.specs.Envelope.{readEnvelope, shownEnvelope}
+use Rattle.contents.specs.declared.envelope.Envelope.{Envelope}
 use Rattle.envelopes.specs.declared.reading.EnvelopeRead.{EnvelopeRead}
 use Rattle.envelopes.proofs.ReadingLaws.{read-taken, read-refused}
 use Rattle.papers.specs.Checks.{shownPapers}
+use Rattle.papers.specs.declared.checks.Papers.{Papers}
 use Rattle.papers.specs.declared.checks.PapersRead.{PapersRead}
 use Rattle.papers.proofs.CheckLaws.{papers-taken, papers-refused}
 use Rattle.semijoin.specs.Marks.{marksAfter}
@@ -19,7 +20,7 @@ use Rattle.answerer.specs.declared.answer.Answered.{Answered}
 use Rattle.boundary.specs.Answers.{answerWord, verdictWord, answeredWord}
 use Rattle.boundary.specs.Given.{papersIn}
 use Rattle.boundary.specs.Running.{runFrom, answerFrom}
-use Rattle.boundary.proofs.CallLaws.{next-refused, next-taken, verdict-said, answered-said, marks-same, answered-same}
+use Rattle.boundary.proofs.CallLaws.{refused-says, taken-says}
 
 -- the papers that are read, or one of them
 pub envelope-said : (e : List ℕ) (c : EnvelopeRead) (r : ℕ) → c ≡ shownEnvelope (readEnvelope e) → r ≡ verdictWord (c .verdict)
@@ -31,39 +32,41 @@ pub papers-said : (e p : List ℕ) (c : PapersRead) (r : ℕ) → c ≡ shownPap
 papers-said e p c r g k = k ∙ ap (λ (x : PapersRead). verdictWord (x .verdict)) g
 
 module _ (e p words marks : List ℕ) (c : PapersRead) (g : c ≡ shownPapers (papersIn e p)) where
-  abbrev Runs : ℕ → List ℕ → Type 0
-  Runs r after = (r ≡ verdictWord (verdictOf (runFrom e p words marks))) × (after ≡ marksAfter marks (runFrom e p words marks))
+  abbrev Runs : ℕ → List ℕ → Outcome (List ℕ) → Type 0
+  Runs r after o = (r ≡ verdictWord (verdictOf o)) × (after ≡ marksAfter marks o)
 
-  pub run-refused : (m u r : ℕ) → c .verdict ≡ Refused m u → r ≡ answerWord m u → Runs r marks
-  unfolding runFrom
+  abbrev running : Papers → Outcome (List ℕ)
+  running q = runOutcome (q .envelope) (q .program) words marks
+
+  pub run-refused : (m u r : ℕ) → c .verdict ≡ Refused m u → r ≡ answerWord m u → Runs r marks (runFrom e p words marks)
+  unfolding runFrom verdictOf verdictWord marksAfter
   run-refused m u r t k =
-      let found = next-refused (papersIn e p) (λ q _. runOutcome (q .envelope) (q .program) words marks) m u (papers-refused (papersIn e p) c m u g t) in
-      (verdict-said m u r k _ found, marks-same marks _ m u found)
+      refused-says (papersIn e p) (λ q _. running q) (Runs r marks) m u (papers-refused (papersIn e p) c m u g t) (k, refl)
 
   pub run-taken : c .verdict ≡ Taken → (v : Verdict) (after : List ℕ) (r : ℕ)
-      → (v ≡ verdictOf (runOutcome (c .papers .envelope) (c .papers .program) words marks))
-      × (after ≡ marksAfter marks (runOutcome (c .papers .envelope) (c .papers .program) words marks))
-      → r ≡ verdictWord v → Runs r after
+      → (v ≡ verdictOf (running (c .papers))) × (after ≡ marksAfter marks (running (c .papers))) → r ≡ verdictWord v
+      → Runs r after (runFrom e p words marks)
   unfolding runFrom
   run-taken t v after r l k =
-      let found =
-      next-taken (papersIn e p) (λ q _. runOutcome (q .envelope) (q .program) words marks) (c .papers) _ (papers-taken (papersIn e p) c g t) in
-      (k ∙ ap verdictWord (l .0) ∙ ap (λ (o : Outcome (List ℕ)). verdictWord (verdictOf o)) (sym found), l .1 ∙ ap (marksAfter marks) (sym found))
+      taken-says (papersIn e p) (λ q _. running q) (Runs r after) (c .papers) _ (papers-taken (papersIn e p) c g t)
+      (k ∙ ap verdictWord (l .0), l .1)
 
 module _ (e words out : List ℕ) (c : EnvelopeRead) (g : c ≡ shownEnvelope (readEnvelope e)) where
-  abbrev Answers : ℕ → List ℕ → Type 0
-  Answers r after = (r ≡ answeredWord (answeredOf (answerFrom e words out))) × (after ≡ answeredIn out (answerFrom e words out))
+  abbrev Answers : ℕ → List ℕ → Outcome (List ℕ) → Type 0
+  Answers r after o = (r ≡ answeredWord (answeredOf o)) × (after ≡ answeredIn out o)
 
-  pub answer-refused : (m u r : ℕ) → c .verdict ≡ Refused m u → r ≡ answerWord m u → Answers r out
-  unfolding answerFrom
+  abbrev answering : Envelope → Outcome (List ℕ)
+  answering f = answerOutcome f words out
+
+  pub answer-refused : (m u r : ℕ) → c .verdict ≡ Refused m u → r ≡ answerWord m u → Answers r out (answerFrom e words out)
+  unfolding answerFrom answeredOf answeredWord answeredIn
   answer-refused m u r t k =
-      let found = next-refused (readEnvelope e) (λ f _. answerOutcome f words out) m u (read-refused (readEnvelope e) c m u g t) in
-      (answered-said m u r k _ found, answered-same out _ m u found)
+      refused-says (readEnvelope e) (λ f _. answering f) (Answers r out) m u (read-refused (readEnvelope e) c m u g t) (k, refl)
 
   pub answer-taken : c .verdict ≡ Taken → (v : Answered) (after : List ℕ) (r : ℕ)
-      → (v ≡ answeredOf (answerOutcome (c .envelope) words out)) × (after ≡ answeredIn out (answerOutcome (c .envelope) words out))
-      → r ≡ answeredWord v → Answers r after
+      → (v ≡ answeredOf (answering (c .envelope))) × (after ≡ answeredIn out (answering (c .envelope))) → r ≡ answeredWord v
+      → Answers r after (answerFrom e words out)
   unfolding answerFrom
   answer-taken t v after r l k =
-      let found = next-taken (readEnvelope e) (λ f _. answerOutcome f words out) (c .envelope) _ (read-taken (readEnvelope e) c g t) in
-      (k ∙ ap answeredWord (l .0) ∙ ap (λ (o : Outcome (List ℕ)). answeredWord (answeredOf o)) (sym found), l .1 ∙ ap (answeredIn out) (sym found))
+      taken-says (readEnvelope e) (λ f _. answering f) (Answers r after) (c .envelope) _ (read-taken (readEnvelope e) c g t)
+      (k ∙ ap answeredWord (l .0), l .1)

@@ -1,16 +1,16 @@
 -- The laws of a state: each return, and the end in it and back.
 use mathlib.Core.Path.{_≡_, refl, sym, ap, _∙_}
 use mathlib.Core.Bool.{Bool, true, false}
-use mathlib.Core.List.{List, [], _∷_, _++_, map}
-use Prim.Native.Nat.{ℕ, zero, suc, _+_, _*_, _≤_, _<_, min}
+use mathlib.Core.List.{List, [], _∷_, map}
+use Prim.Native.Nat.{ℕ, zero, suc, _+_, _≤_, _<_}
 use native.Mathlib.Numerals.{add-one}
 use native.Mathlib.Omega.{arith}
-use lib.ListN.{length, getD, take, set}
+use lib.ListN.{length, getD, take}
 use lib.Seq.{sets, take-all, set-getD}
 use lib.Dec.{ltb, eqb}
 use borrow.Author.Tests.{lt-ltb, le-ltb}
 use Rattle.ground.specs.Tests.{pick}
-use Rattle.ground.specs.Lists.{any, below, numbersFrom}
+use Rattle.ground.specs.Lists.{numbersFrom}
 use Rattle.ground.specs.Searching.{someFrom}
 use Rattle.ground.proofs.SearchingLaws.{Looking, some-more, some-found, some-none, any-numbers}
 use Rattle.ground.proofs.PuttingLaws.{Copying, copying-done}
@@ -18,7 +18,7 @@ use Rattle.contents.specs.Parts.{relationCount}
 use Rattle.papers.specs.declared.checks.Papers.{Papers}
 use Rattle.ends.specs.declared.ends.End.{End}
 use Rattle.boundary.specs.Answers.{asWord}
-use Rattle.boundary.specs.States.{places, appliedIn, arrivedIn, unclearAt, unclear, endOf, bitOf, appliedWord, wordsOf, stateAfter}
+use Rattle.boundary.specs.States.{appliedIn, arrivedIn, unclearAt, unclear, endOf, bitOf, appliedWord, wordsOf, stateAfter}
 
 -- ---- an arrived word that is neither 0 nor 1
 

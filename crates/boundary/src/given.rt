@@ -4,17 +4,15 @@ use fields::refusals;
 use ground::Verdict;
 use papers::checks::Papers;
 use papers::checks::PapersRead;
-use papers::programs::Program;
-use paths::steps::Step;
 ghost use mathlib.Core.Path.{_≡_};
 ghost use Rattle.ground.specs.Outcome.{verdictOf};
 ghost use Rattle.ground.specs.Outcome.Outcome.{bad};
 ghost use Rattle.envelopes.specs.Envelope.{readEnvelope};
-ghost use Rattle.papers.specs.Checks.{noPapers, shownPapers};
+ghost use Rattle.papers.specs.Checks.{shownPapers};
 ghost use Rattle.boundary.specs.Answers.{verdictWord};
 ghost use Rattle.boundary.specs.Given.{papersIn, endIn, shownEnd};
 
-// The end, or the refusal with the empty end beside it.
+// An end, or the refusal with the empty end beside it.
 pub struct EndRead {
     pub verdict: Verdict,
     pub end: End,
@@ -31,9 +29,12 @@ pub(crate) fn read_papers(envelope: &[u8], program: &[u8]) -> PapersRead
     let verdict = read.verdict;
     let found = against.verdict;
     match verdict {
-        Verdict::Refused { number, position } => refused_papers(number, position),
+        Verdict::Refused { number, position } => papers::checks::refused_papers(number, position),
         Verdict::Taken => match found {
-            Verdict::Refused { number, position } => refused_papers(number, position),
+            Verdict::Refused { number, position } => papers::checks::refused_papers(
+                number,
+                position,
+            ),
             Verdict::Taken => PapersRead {
                 verdict: Verdict::Taken,
                 papers: Papers {
@@ -45,41 +46,10 @@ pub(crate) fn read_papers(envelope: &[u8], program: &[u8]) -> PapersRead
     }
 }
 
-// What stands beside a refusal.
-fn no_papers() -> Papers
-    ensures { λ r. ⌜ r ≡ noPapers ⌝ }
-{
-    let envelope = contents::envelope::no_envelope();
-    let place = entries::places::no_place();
-    let step = Step {
-        left: place,
-        right: place,
-    };
-    let steps = [step; 156];
-    let program = Program {
-        site: 0,
-        count: 0,
-        steps: steps,
-    };
-    Papers { envelope, program }
-}
-
-fn refused_papers(number: u8, position: usize) -> PapersRead
-    ensures { λ r. ⌜ r ≡ shownPapers (bad number position) ⌝ }
-{
-    let none = no_papers();
-    PapersRead {
-        verdict: Verdict::Refused { number, position },
-        papers: none,
-    }
-}
-
 fn refused_end(number: u8, position: usize) -> EndRead
     ensures { λ r. ⌜ r ≡ shownEnd (bad number position) ⌝ }
 {
-    let none = no_papers();
-    let zeros = [0u32; 19];
-    let end = crate::states::end_of(none, &zeros);
+    let end = ends::ends::no_end();
     EndRead {
         verdict: Verdict::Refused { number, position },
         end: end,

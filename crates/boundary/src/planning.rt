@@ -30,12 +30,7 @@ ghost use Rattle.boundary.specs.Planning.{
 fn steps_in(lines: [Line; 156]) -> [Step; 156]
     ensures { λ r. ⌜ r ≡ stepsIn lines ⌝ }
 {
-    let place = entries::places::no_place();
-    let none = Step {
-        left: place,
-        right: place,
-    };
-    let mut steps = [none; 156];
+    let mut steps = [estimates::lines::no_step(); 156];
     let mut i: usize = 0;
     while i < 156 {
         let line = lines[i];

@@ -1,4 +1,4 @@
-use Rattle.boundary.proofs.RunningLaws.{envelope-said, papers-said}
+use Rattle.boundary.proofs.RunningLaws.{envelope-said}
 use borrow.Author.Needs.{needs}
 use Rattle.boundary.proofs.given.legestran_read_envelope.Statement.{statement}
 use Rattle.boundary.proofs.given.legestran_read_envelope.Tie as tie
@@ -17,7 +17,7 @@ of-verdict-requires c κs = search needs
 
 -- src/given.rt:94:1
 returns : tie.Need-returns
-returns c = search (envelope-said, papers-said, needs)
+returns c = search (envelope-said, needs)
 
 pub legestran-read-envelope-spec : {M : Type 1} → statement M
 legestran-read-envelope-spec =

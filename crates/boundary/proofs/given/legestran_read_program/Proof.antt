@@ -1,4 +1,4 @@
-use Rattle.boundary.proofs.RunningLaws.{envelope-said, papers-said}
+use Rattle.boundary.proofs.RunningLaws.{papers-said}
 use borrow.Author.Needs.{needs}
 use Rattle.boundary.proofs.given.legestran_read_program.Statement.{statement}
 use Rattle.boundary.proofs.given.legestran_read_program.Tie as tie
@@ -17,7 +17,7 @@ of-verdict-requires c κs = search needs
 
 -- src/given.rt:104:1
 returns : tie.Need-returns
-returns c = search (envelope-said, papers-said, needs)
+returns c = search (papers-said, needs)
 
 pub legestran-read-program-spec : {M : Type 1} → statement M
 legestran-read-program-spec = tie.close (tie.spec read-papers-requires of-verdict-requires returns)

@@ -4,7 +4,7 @@ use Rattle.boundary.proofs.given.read_papers.Statement.{statement}
 use Rattle.boundary.proofs.given.read_papers.Tie as tie
 use Rattle.boundary.proofs.given.read_papers.Reads as reads
 use Rattle.boundary.proofs.given.read_papers.Lts as lts
-use Rattle.boundary.proofs.given.refused_papers.Reads as refused-papers-reads
+use Rattle.papers.proofs.checks.refused_papers.Reads as refused-papers-reads
 use Rattle.envelopes.proofs.reading.read_envelope.Reads as read-envelope-reads
 use Rattle.papers.proofs.programs.read_program.Reads as read-program-reads
 

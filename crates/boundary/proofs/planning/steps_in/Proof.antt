@@ -9,7 +9,7 @@ use Rattle.boundary.proofs.planning.steps_in.Statement.{statement}
 use Rattle.boundary.proofs.planning.steps_in.Tie as tie
 use Rattle.boundary.proofs.planning.steps_in.Reads as reads
 use Rattle.boundary.proofs.planning.steps_in.Lts as lts
-use Rattle.entries.proofs.places.no_place.Reads as no-place-reads
+use Rattle.estimates.proofs.lines.no_step.Reads as no-step-reads
 
 abbrev Inv-loop : tie.InvT-loop
 Inv-loop lines steps₀ i₀ steps i = Copying (stepsIn lines) steps₀ 0 156 i i steps
@@ -18,8 +18,8 @@ abbrev μ-loop : tie.MeasureT-loop
 μ-loop lines steps₀ i₀ steps i = 156 - i
 
 -- src/planning.rt:32:9
-no-place-requires : tie.Need-no-place-requires Inv-loop μ-loop
-no-place-requires c κs = search needs
+no-step-requires : tie.Need-no-step-requires Inv-loop μ-loop
+no-step-requires c κs = search needs
 
 -- src/planning.rt:39:5
 loop-holds : tie.Need-loop-holds Inv-loop μ-loop
@@ -63,7 +63,7 @@ steps-in-spec =
     (tie.spec
     Inv-loop
     μ-loop
-    no-place-requires
+    no-step-requires
     loop-holds
     mul-line
     array-copy-out-line

@@ -27,11 +27,11 @@ shared-slice-read-result c = search needs
 
 -- src/states.rt:62:1
 returns : tie.Need-returns
-returns c = search (applied-own, applied-behind, needs)
+returns c = search (applied-own, needs)
 
 -- src/states.rt:62:1
 returns-2 : tie.Need-returns-2
-returns-2 c = search (applied-own, applied-behind, needs)
+returns-2 c = search (applied-behind, needs)
 
 pub applied-word-spec : {M : Type 1} → statement M
 applied-word-spec =

@@ -7,11 +7,11 @@ use Rattle.boundary.proofs.states.bit_of.Lts as lts
 
 -- src/states.rt:55:1
 returns : tie.Need-returns
-returns c = search (bit-set, bit-clear, needs)
+returns c = search (bit-set, needs)
 
 -- src/states.rt:55:1
 returns-2 : tie.Need-returns-2
-returns-2 c = search (bit-set, bit-clear, needs)
+returns-2 c = search (bit-clear, needs)
 
 pub bit-of-spec : {M : Type 1} → statement M
 bit-of-spec = tie.close (tie.spec returns returns-2)
