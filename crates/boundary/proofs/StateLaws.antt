@@ -1,16 +1,13 @@
--- The laws of a state: each return, and the end in it and back.
+-- The laws of a state: each return.
 use mathlib.Core.Path.{_≡_, refl, sym, ap, _∙_}
 use mathlib.Core.Bool.{Bool, true, false}
-use mathlib.Core.List.{List, [], _∷_, map}
-use Prim.Native.Nat.{ℕ, zero, suc, _+_, _≤_, _<_}
-use native.Mathlib.Numerals.{add-one}
+use mathlib.Core.List.{List, [], _∷_}
+use Prim.Native.Nat.{ℕ, _+_, _≤_, _<_}
 use native.Mathlib.Omega.{arith}
 use lib.ListN.{length, getD, take}
-use lib.Seq.{sets, take-all, set-getD}
-use lib.Dec.{ltb, eqb}
+use lib.Seq.{sets, take-all}
+use lib.Dec.{eqb}
 use borrow.Author.Tests.{lt-ltb, le-ltb}
-use Rattle.ground.specs.Tests.{pick}
-use Rattle.ground.specs.Lists.{numbersFrom}
 use Rattle.ground.specs.Searching.{someFrom}
 use Rattle.ground.proofs.SearchingLaws.{Looking, some-more, some-found, some-none, any-numbers}
 use Rattle.ground.proofs.PuttingLaws.{Copying, copying-done}
@@ -95,7 +92,7 @@ module _ (x : End) (s : List ℕ) (n : ℕ) (e : n ≡ relationCount (x .envelop
   words-are u a b c d f g h i eu ea eb ec ed ef eg eh ei A B C D F G H I eA eB eC eD eF eG eH eI =
       rw (eu, ea, eb, ec, ed, ef, eg, eh, ei, eA, eB, eC, eD, eF, eG, eH, eI, e) refl
 
-words-long : (x : End) (s : List ℕ) → length (wordsOf x s) ≡ 19
+pub words-long : (x : End) (s : List ℕ) → length (wordsOf x s) ≡ 19
 unfolding wordsOf
 words-long x s = refl
 
@@ -106,43 +103,3 @@ state-put x s words after i p e c h =
     copying-done words s 0 19 i p after c h
     ∙ ap (λ (w : List ℕ). sets s 0 (take 19 w)) e
     ∙ ap (λ (w : List ℕ). sets s 0 w) (take-all 19 (wordsOf x s) (omega (arith, words-long x s)))
-
--- ---- the end in a state, and back
-
--- every word written as it stands changes nothing
-sets-same : (s : List ℕ) (i n : ℕ) → sets s i (map (λ j. getD s j 0) (numbersFrom i n)) ≡ s
-unfolding numbersFrom
-sets-same s i zero = refl
-sets-same s i (suc n) =
-    ap (λ (l : List ℕ). sets l (suc i) (map (λ j. getD s j 0) (numbersFrom (i + 1) n))) (set-getD s i 0)
-    ∙ rw (add-one i) (sets-same s (suc i) n)
-
-bit-back : (n : ℕ) → n ≤ 1 → bitOf (eqb n 1) ≡ n
-unfolding bitOf
-bit-back zero h = refl
-bit-back (suc zero) h = refl
-bit-back (suc (suc n)) h = absurd (omega (arith, h))
-
-either-same : (b : Bool) (n : ℕ) → pick b n n ≡ n
-either-same true n = refl
-either-same false n = refl
-
--- a state whose arrived words are 0 or 1 is what is written of the end that it is
-module _ (q : Papers) (s : List ℕ) (clear : (r : ℕ) → r < 8 → getD s (11 + r) 0 ≤ 1) (counted : getD s 2 0 ≤ 4294967295) where
-  bit : (r : ℕ) → r < 8 → getD s (11 + r) 0 ≡ bitOf (eqb (getD s (11 + r) 0) 1)
-  bit r h = sym (bit-back (getD s (11 + r) 0) (clear r h))
-
-  -- behind the last relation or not, an applied word is as it was
-  stays : (r : ℕ) → getD s (3 + r) 0 ≡ pick (ltb r (relationCount (q .envelope))) (getD s (3 + r) 0) (getD s (3 + r) 0)
-  stays r = sym (either-same (ltb r (relationCount (q .envelope))) (getD s (3 + r) 0))
-
-  words-back : map (λ j. getD s j 0) (numbersFrom 0 19) ≡ wordsOf (endOf q s) s
-  unfolding endOf appliedIn arrivedIn appliedWord asWord numbersFrom
-  words-back =
-      words-are (endOf q s) s (relationCount (q .envelope)) refl _ _ _ _ _ _ _ _ _ (omega (arith, counted)) (stays 0) (stays 1) (stays 2)
-      (stays 3) (stays 4) (stays 5) (stays 6) (stays 7) _ _ _ _ _ _ _ _ (bit 0 (omega arith)) (bit 1 (omega arith)) (bit 2 (omega arith))
-      (bit 3 (omega arith)) (bit 4 (omega arith)) (bit 5 (omega arith)) (bit 6 (omega arith)) (bit 7 (omega arith))
-
-  pub state-back : stateAfter (endOf q s) s ≡ s
-  unfolding stateAfter
-  state-back = sym (ap (λ (w : List ℕ). sets s 0 w) words-back) ∙ sets-same s 0 19
