@@ -1,224 +1,214 @@
--- Of each public function that reads, checks, writes, plans or estimates, or serves those: two results that meet its contract's
--- equation are equal, and so is what it leaves in what is lent. Five of estimates also ask for bounds (docs/CONTRACTS.md), which the
--- equation does not need; put_head says besides that its result is at most 5.
-use Prim.Native.Nat.{min, ℕ}
-use lib.ListN.{getD}
-use lib.Seq.{sets}
-use mathlib.Core.List.{List, [], _++_, _∷_}
-use Rattle.ground.specs.Bytes.{bytesOf}
-use Rattle.ground.specs.Outcome.Outcome.{bad}
-use Rattle.fields.specs.Numbers.{bytesWide, headOf, numberAt, numberBelow, numberIn, shownNumber}
-use Rattle.fields.specs.Puts.{frontIn, frontOf}
-use Rattle.fields.specs.declared.numbers.Width.{Width}
-use Rattle.entries.specs.Clauses.{clauseAt, domainOf, noClause, shownClause}
-use Rattle.entries.specs.Places.{noPlace, placeAt, samePlace, shownPlace}
-use Rattle.entries.specs.Relations.{columnCount, noColumn, noRelation, pastRelation, relationAt, shownRelation}
-use Rattle.entries.specs.declared.places.Place.{Place}
-use Rattle.entries.specs.declared.relations.Column.{Column}
-use Rattle.entries.specs.declared.relations.Relation.{Relation}
-use Rattle.contents.specs.Kept.{keptColumns, shownBare, shownColumns}
-use Rattle.contents.specs.Parts.{columnsIn, noEnvelope}
-use Rattle.contents.specs.Sites.{holds, isAt, siteOf}
-use Rattle.contents.specs.declared.envelope.Envelope.{Envelope}
-use Rattle.envelopes.specs.Envelope.{checkEnvelope, envelopeWritten, envelopeWrittenIn, readEnvelope, shownEnvelope}
-use Rattle.paths.specs.Implied.{equalitiesBy, equalitiesRead, selectionsBy, selectionsRead, shownEqualities, shownSelections}
-use Rattle.paths.specs.Labels.{byLabels, labelsOf}
-use Rattle.paths.specs.Steps.{isPlace, legalBy, legalityOf}
-use Rattle.paths.specs.declared.labels.Labels.{Labels}
-use Rattle.paths.specs.declared.steps.Step.{Step}
-use Rattle.papers.specs.Checks.{papersOf, shownPapers}
-use Rattle.papers.specs.Programs.{checkProgram, noProgram, noStep, programBy, programWritten, programWrittenIn, readProgram, shownProgram, stepsOf}
-use Rattle.papers.specs.declared.programs.Program.{Program}
-use Rattle.estimates.specs.Costs.{assemblyAt, plainCosts, stepCost}
-use Rattle.estimates.specs.Estimate.{estimateOf, estimated, line}
-use Rattle.estimates.specs.Profile.{afterStep, benefit, localProfile}
-use Rattle.estimates.specs.declared.costs.Costs.{Costs}
-use Rattle.estimates.specs.declared.profiles.Profile.{Profile}
-use Rattle.planner.specs.Plan.{planOf}
-use Rattle.demands.proofs.Unique.{One, OneFront, OneLent, one, one-front, one-lent}
+-- Of each public function that reads, checks, writes, plans, estimates or lists, or serves those: its contract determines it.
+use Rattle.ground.proofs.used
+use Rattle.fields.proofs.numbers
+use Rattle.fields.proofs.puts
+use Rattle.entries.proofs.clauses
+use Rattle.entries.proofs.places
+use Rattle.entries.proofs.relations
+use Rattle.contents.proofs.envelope
+use Rattle.contents.proofs.kept
+use Rattle.contents.proofs.parts
+use Rattle.contents.proofs.sites
+use Rattle.envelopes.proofs.reading
+use Rattle.paths.proofs.implied
+use Rattle.paths.proofs.labels
+use Rattle.paths.proofs.steps
+use Rattle.papers.proofs.checks
+use Rattle.papers.proofs.programs
+use Rattle.estimates.proofs.costs
+use Rattle.estimates.proofs.estimator
+use Rattle.estimates.proofs.lines
+use Rattle.estimates.proofs.locals
+use Rattle.estimates.proofs.profiles
+use Rattle.planner.proofs.planner
+use Rattle.listing.proofs.listing
+use mathlib.Core.Path.{refl}
+use Rattle.demands.proofs.Unique.{Determined, same}
 
 -- ---- ground
 
-pub in-use-one : (size count : ℕ) → One (min size count)
-in-use-one size count = one _
+pub in-use-one : Determined used.in_use.Kinds.ps used.in_use.Kinds.r used.in_use.Reads.Learnt
+in-use-one κs a y z u v p q = (same p q, refl)
 
 -- ---- fields
 
-pub number-at-one : (s : List ℕ) (at : ℕ) (width : Width) → One (shownNumber (numberAt (bytesWide width) s at))
-number-at-one s at width = one _
+pub number-at-one : Determined numbers.number_at.Kinds.ps numbers.number_at.Kinds.r numbers.number_at.Reads.Learnt
+number-at-one κs a y z u v p q = (same p q, refl)
 
-pub number-in-one : (s : List ℕ) (at : ℕ) (width : Width) (low high : ℕ) → One (shownNumber (numberIn (bytesWide width) low high s at))
-number-in-one s at width low high = one _
+pub number-in-one : Determined numbers.number_in.Kinds.ps numbers.number_in.Kinds.r numbers.number_in.Reads.Learnt
+number-in-one κs a y z u v p q = (same p q, refl)
 
-pub number-below-one : (s : List ℕ) (at : ℕ) (width : Width) (limit : ℕ) → One (shownNumber (numberBelow (bytesWide width) limit s at))
-number-below-one s at width limit = one _
+pub number-below-one : Determined numbers.number_below.Kinds.ps numbers.number_below.Kinds.r numbers.number_below.Reads.Learnt
+number-below-one κs a y z u v p q = (same p q, refl)
 
-pub read-head-one : (s : List ℕ) (a b c newest : ℕ) → One (shownNumber (headOf (a ∷ b ∷ c ∷ []) newest s))
-read-head-one s a b c newest = one _
+pub read-head-one : Determined numbers.read_head.Kinds.ps numbers.read_head.Kinds.r numbers.read_head.Reads.Learnt
+read-head-one κs a y z u v p q = (same p q, refl)
 
-pub put-number-one : (out : List ℕ) (at : ℕ) (width : Width) (value : ℕ) → One (sets out at (bytesOf (bytesWide width) value))
-put-number-one out at width value = one _
+pub put-number-one : Determined puts.put_number.Kinds.ps puts.put_number.Kinds.r puts.put_number.Reads.Learnt
+put-number-one κs a y z u v p q = (refl, λ i. (same p q i, (tt, (tt, (tt, tt)))))
 
-pub put-head-one : (out : List ℕ) (a b c version : ℕ) → OneFront out 5 ((a ∷ b ∷ c ∷ []) ++ bytesOf 2 version)
-put-head-one out a b c version = one-front out 5 ((a ∷ b ∷ c ∷ []) ++ bytesOf 2 version)
+pub put-head-one : Determined puts.put_head.Kinds.ps puts.put_head.Kinds.r puts.put_head.Reads.Learnt
+put-head-one κs a y z u v p q = (same (p .0) (q .0), λ i. (same (p .1) (q .1) i, (tt, (tt, (tt, (tt, tt))))))
 
-pub write-front-one : (bytes out : List ℕ) → OneLent (frontOf bytes out) (frontIn bytes out)
-write-front-one bytes out = one-lent _ _
+pub write-front-one : Determined puts.write_front.Kinds.ps puts.write_front.Kinds.r puts.write_front.Reads.Learnt
+write-front-one κs a y z u v p q = (same (p .0) (q .0), λ i. (tt, (same (p .1) (q .1) i, tt)))
 
 -- ---- entries
 
-pub no-clause-one : One noClause
-no-clause-one = one _
+pub no-clause-one : Determined clauses.no_clause.Kinds.ps clauses.no_clause.Kinds.r clauses.no_clause.Reads.Learnt
+no-clause-one κs a y z u v p q = (same p q, refl)
 
-pub domain-of-one : (relations : List Relation) (place : Place) → One (domainOf relations place)
-domain-of-one relations place = one _
+pub domain-of-one : Determined clauses.domain_of.Kinds.ps clauses.domain_of.Kinds.r clauses.domain_of.Reads.Learnt
+domain-of-one κs a y z u v p q = (same p q, refl)
 
-pub read-clause-one : (s : List ℕ) (at count : ℕ) (relations : List Relation) → One (shownClause (clauseAt count relations s at))
-read-clause-one s at count relations = one _
+pub read-clause-one : Determined clauses.read_clause.Kinds.ps clauses.read_clause.Kinds.r clauses.read_clause.Reads.Learnt
+read-clause-one κs a y z u v p q = (same p q, refl)
 
-pub no-place-one : One noPlace
-no-place-one = one _
+pub no-place-one : Determined places.no_place.Kinds.ps places.no_place.Kinds.r places.no_place.Reads.Learnt
+no-place-one κs a y z u v p q = (same p q, refl)
 
-pub same-place-one : (a b : Place) → One (samePlace a b)
-same-place-one a b = one _
+pub same-place-one : Determined places.same_place.Kinds.ps places.same_place.Kinds.r places.same_place.Reads.Learnt
+same-place-one κs a y z u v p q = (same p q, refl)
 
-pub column-count-one : (relations : List Relation) (i : ℕ) → One (columnCount (getD relations i pastRelation))
-column-count-one relations i = one _
+pub column-count-one : Determined places.column_count.Kinds.ps places.column_count.Kinds.r places.column_count.Reads.Learnt
+column-count-one κs a y z u v p q = (same p q, refl)
 
-pub read-place-one : (s : List ℕ) (at count : ℕ) (relations : List Relation) → One (shownPlace (placeAt count relations s at))
-read-place-one s at count relations = one _
+pub read-place-one : Determined places.read_place.Kinds.ps places.read_place.Kinds.r places.read_place.Reads.Learnt
+read-place-one κs a y z u v p q = (same p q, refl)
 
-pub column-at-one : (columns : List Column) (i : ℕ) → One (getD columns i noColumn)
-column-at-one columns i = one _
+pub column-at-one : Determined relations.column_at.Kinds.ps relations.column_at.Kinds.r relations.column_at.Reads.Learnt
+column-at-one κs a y z u v p q = (same p q, refl)
 
-pub no-relation-one : One noRelation
-no-relation-one = one _
+pub no-relation-one : Determined relations.no_relation.Kinds.ps relations.no_relation.Kinds.r relations.no_relation.Reads.Learnt
+no-relation-one κs a y z u v p q = (same p q, refl)
 
-pub read-relation-one : (s : List ℕ) (at count : ℕ) (sizes : List ℕ) → One (shownRelation (relationAt count sizes s at))
-read-relation-one s at count sizes = one _
+pub read-relation-one : Determined relations.read_relation.Kinds.ps relations.read_relation.Kinds.r relations.read_relation.Reads.Learnt
+read-relation-one κs a y z u v p q = (same p q, refl)
 
 -- ---- contents
 
-pub no-envelope-one : One noEnvelope
-no-envelope-one = one _
+pub no-envelope-one : Determined envelope.no_envelope.Kinds.ps envelope.no_envelope.Kinds.r envelope.no_envelope.Reads.Learnt
+no-envelope-one κs a y z u v p q = (same p q, refl)
 
-pub kept-columns-one : (envelope : Envelope) (relation : ℕ) → One (shownColumns (keptColumns envelope relation))
-kept-columns-one envelope relation = one _
+pub kept-columns-one : Determined kept.kept_columns.Kinds.ps kept.kept_columns.Kinds.r kept.kept_columns.Reads.Learnt
+kept-columns-one κs a y z u v p q = (same p q, refl)
 
-pub lowest-bare-one : (envelope : Envelope) → One (shownBare envelope)
-lowest-bare-one envelope = one _
+pub lowest-bare-one : Determined kept.lowest_bare.Kinds.ps kept.lowest_bare.Kinds.r kept.lowest_bare.Reads.Learnt
+lowest-bare-one κs a y z u v p q = (same p q, refl)
 
-pub columns-in-one : (envelope : Envelope) (relation : ℕ) → One (columnsIn envelope relation)
-columns-in-one envelope relation = one _
+pub columns-in-one : Determined parts.columns_in.Kinds.ps parts.columns_in.Kinds.r parts.columns_in.Reads.Learnt
+columns-in-one κs a y z u v p q = (same p q, refl)
 
-pub site-of-one : (envelope : Envelope) (relation : ℕ) → One (siteOf envelope relation)
-site-of-one envelope relation = one _
+pub site-of-one : Determined sites.site_of.Kinds.ps sites.site_of.Kinds.r sites.site_of.Reads.Learnt
+site-of-one κs a y z u v p q = (same p q, refl)
 
-pub is-at-one : (envelope : Envelope) (site relation : ℕ) → One (isAt envelope site relation)
-is-at-one envelope site relation = one _
+pub is-at-one : Determined sites.is_at.Kinds.ps sites.is_at.Kinds.r sites.is_at.Reads.Learnt
+is-at-one κs a y z u v p q = (same p q, refl)
 
-pub holds-relation-one : (envelope : Envelope) (site : ℕ) → One (holds envelope site)
-holds-relation-one envelope site = one _
+pub holds-relation-one : Determined sites.holds_relation.Kinds.ps sites.holds_relation.Kinds.r sites.holds_relation.Reads.Learnt
+holds-relation-one κs a y z u v p q = (same p q, refl)
 
 -- ---- envelopes
 
-pub read-envelope-one : (s : List ℕ) → One (shownEnvelope (readEnvelope s))
-read-envelope-one s = one _
+pub read-envelope-one : Determined reading.read_envelope.Kinds.ps reading.read_envelope.Kinds.r reading.read_envelope.Reads.Learnt
+read-envelope-one κs a y z u v p q = (same p q, refl)
 
-pub check-envelope-one : (envelope : Envelope) → One (shownEnvelope (checkEnvelope envelope))
-check-envelope-one envelope = one _
+pub check-envelope-one : Determined reading.check_envelope.Kinds.ps reading.check_envelope.Kinds.r reading.check_envelope.Reads.Learnt
+check-envelope-one κs a y z u v p q = (same p q, refl)
 
-pub write-envelope-one : (envelope : Envelope) (out : List ℕ) → OneLent (envelopeWritten envelope out) (envelopeWrittenIn envelope out)
-write-envelope-one envelope out = one-lent _ _
+pub write-envelope-one : Determined reading.write_envelope.Kinds.ps reading.write_envelope.Kinds.r reading.write_envelope.Reads.Learnt
+write-envelope-one κs a y z u v p q = (same (p .0) (q .0), λ i. (tt, (same (p .1) (q .1) i, tt)))
 
 -- ---- paths
 
-pub selections-by-one : (envelope : Envelope) (labels : Labels) (relation : ℕ)
-    → One (shownSelections (selectionsBy (byLabels (labels .of) envelope) envelope relation))
-selections-by-one envelope labels relation = one _
+pub selections-by-one : Determined implied.selections_by.Kinds.ps implied.selections_by.Kinds.r implied.selections_by.Reads.Learnt
+selections-by-one κs a y z u v p q = (same p q, refl)
 
-pub equalities-by-one : (envelope : Envelope) (labels : Labels) (relation : ℕ)
-    → One (shownEqualities (equalitiesBy (byLabels (labels .of) envelope) envelope relation))
-equalities-by-one envelope labels relation = one _
+pub equalities-by-one : Determined implied.equalities_by.Kinds.ps implied.equalities_by.Kinds.r implied.equalities_by.Reads.Learnt
+equalities-by-one κs a y z u v p q = (same p q, refl)
 
-pub implied-selections-one : (envelope : Envelope) (relation : ℕ) → One (selectionsRead (checkEnvelope envelope) relation)
-implied-selections-one envelope relation = one _
+pub implied-selections-one : Determined implied.implied_selections.Kinds.ps implied.implied_selections.Kinds.r implied.implied_selections.Reads.Learnt
+implied-selections-one κs a y z u v p q = (same p q, refl)
 
-pub implied-equalities-one : (envelope : Envelope) (relation : ℕ) → One (equalitiesRead (checkEnvelope envelope) relation)
-implied-equalities-one envelope relation = one _
+pub implied-equalities-one : Determined implied.implied_equalities.Kinds.ps implied.implied_equalities.Kinds.r implied.implied_equalities.Reads.Learnt
+implied-equalities-one κs a y z u v p q = (same p q, refl)
 
-pub labels-of-one : (envelope : Envelope) → One {R = Labels} (record { of = labelsOf envelope })
-labels-of-one envelope = one _
+pub labels-of-one : Determined labels.labels_of.Kinds.ps labels.labels_of.Kinds.r labels.labels_of.Reads.Learnt
+labels-of-one κs a y z u v p q = (same p q, refl)
 
-pub is-place-one : (envelope : Envelope) (place : Place) → One (isPlace envelope place)
-is-place-one envelope place = one _
+pub is-place-one : Determined steps.is_place.Kinds.ps steps.is_place.Kinds.r steps.is_place.Reads.Learnt
+is-place-one κs a y z u v p q = (same p q, refl)
 
-pub legal-by-one : (envelope : Envelope) (labels : Labels) (step : Step) → One (legalBy (byLabels (labels .of) envelope) envelope step)
-legal-by-one envelope labels step = one _
+pub legal-by-one : Determined steps.legal_by.Kinds.ps steps.legal_by.Kinds.r steps.legal_by.Reads.Learnt
+legal-by-one κs a y z u v p q = (same p q, refl)
 
-pub is-legal-one : (envelope : Envelope) (step : Step) → One (legalityOf (checkEnvelope envelope) step)
-is-legal-one envelope step = one _
+pub is-legal-one : Determined steps.is_legal.Kinds.ps steps.is_legal.Kinds.r steps.is_legal.Reads.Learnt
+is-legal-one κs a y z u v p q = (same p q, refl)
 
 -- ---- papers
 
-pub refused-papers-one : (number position : ℕ) → One (shownPapers (bad number position))
-refused-papers-one number position = one _
+pub refused-papers-one : Determined checks.refused_papers.Kinds.ps checks.refused_papers.Kinds.r checks.refused_papers.Reads.Learnt
+refused-papers-one κs a y z u v p q = (same p q, refl)
 
-pub check-papers-one : (envelope : Envelope) (program : Program) → One (shownPapers (papersOf envelope program))
-check-papers-one envelope program = one _
+pub check-papers-one : Determined checks.check_papers.Kinds.ps checks.check_papers.Kinds.r checks.check_papers.Reads.Learnt
+check-papers-one κs a y z u v p q = (same p q, refl)
 
-pub no-program-one : One noProgram
-no-program-one = one _
+pub no-program-one : Determined programs.no_program.Kinds.ps programs.no_program.Kinds.r programs.no_program.Reads.Learnt
+no-program-one κs a y z u v p q = (same p q, refl)
 
-pub read-program-by-one : (s : List ℕ) (envelope : Envelope) (labels : Labels)
-    → One (shownProgram (programBy (legalBy (byLabels (labels .of) envelope) envelope) envelope s))
-read-program-by-one s envelope labels = one _
+pub read-program-by-one : Determined programs.read_program_by.Kinds.ps programs.read_program_by.Kinds.r programs.read_program_by.Reads.Learnt
+read-program-by-one κs a y z u v p q = (same p q, refl)
 
-pub read-program-one : (envelope : Envelope) (s : List ℕ) → One (shownProgram (readProgram envelope s))
-read-program-one envelope s = one _
+pub read-program-one : Determined programs.read_program.Kinds.ps programs.read_program.Kinds.r programs.read_program.Reads.Learnt
+read-program-one κs a y z u v p q = (same p q, refl)
 
-pub check-program-one : (envelope : Envelope) (program : Program) → One (shownProgram (checkProgram envelope program))
-check-program-one envelope program = one _
+pub check-program-one : Determined programs.check_program.Kinds.ps programs.check_program.Kinds.r programs.check_program.Reads.Learnt
+check-program-one κs a y z u v p q = (same p q, refl)
 
-pub write-program-one : (envelope : Envelope) (program : Program) (out : List ℕ)
-    → OneLent (programWritten envelope program out) (programWrittenIn envelope program out)
-write-program-one envelope program out = one-lent _ _
+pub write-program-one : Determined programs.write_program.Kinds.ps programs.write_program.Kinds.r programs.write_program.Reads.Learnt
+write-program-one κs a y z u v p q = (same (p .0) (q .0), λ i. (tt, (tt, (same (p .1) (q .1) i, tt))))
 
 -- ---- estimates
 
-pub plain-costs-one : One plainCosts
-plain-costs-one = one _
+pub plain-costs-one : Determined costs.plain_costs.Kinds.ps costs.plain_costs.Kinds.r costs.plain_costs.Reads.Learnt
+plain-costs-one κs a y z u v p q = (same p q, refl)
 
-pub assembly-at-one : (costs : Costs) (envelope : Envelope) (profile : Profile) (site : ℕ) → One (assemblyAt costs envelope profile site)
-assembly-at-one costs envelope profile site = one _
+pub assembly-at-one : Determined costs.assembly_at.Kinds.ps costs.assembly_at.Kinds.r costs.assembly_at.Reads.Learnt
+assembly-at-one κs a y z u v p q = (same p q, refl)
 
-pub line-of-one : (costs : Costs) (envelope : Envelope) (profile : Profile) (step : Step)
-    → One (line step (benefit envelope profile step) (stepCost costs envelope profile step))
-line-of-one costs envelope profile step = one _
+pub line-of-one : Determined estimator.line_of.Kinds.ps estimator.line_of.Kinds.r estimator.line_of.Reads.Learnt
+line-of-one κs a y z u v p q = (same p q, refl)
 
-pub estimated-one : (costs : Costs) (envelope : Envelope) (local : Profile) (program : Program)
-    → One (estimated costs envelope (stepsOf program) (program .site))
-estimated-one costs envelope local program = one _
+pub estimated-one : Determined estimator.estimated.Kinds.ps estimator.estimated.Kinds.r estimator.estimated.Reads.Learnt
+estimated-one κs a y z u v p q = (same p q, refl)
 
-pub estimate-one : (envelope : Envelope) (program : Program) → One (estimateOf (checkEnvelope envelope) (checkProgram envelope program))
-estimate-one envelope program = one _
+pub estimate-one : Determined estimator.estimate.Kinds.ps estimator.estimate.Kinds.r estimator.estimate.Reads.Learnt
+estimate-one κs a y z u v p q = (same p q, refl)
 
-pub no-step-one : One noStep
-no-step-one = one _
+pub no-step-one : Determined lines.no_step.Kinds.ps lines.no_step.Kinds.r lines.no_step.Reads.Learnt
+no-step-one κs a y z u v p q = (same p q, refl)
 
-pub no-line-one : One (line noStep 0 0)
-no-line-one = one _
+pub no-line-one : Determined lines.no_line.Kinds.ps lines.no_line.Kinds.r lines.no_line.Reads.Learnt
+no-line-one κs a y z u v p q = (same p q, refl)
 
-pub local-profile-one : (envelope : Envelope) → One (localProfile envelope)
-local-profile-one envelope = one _
+pub local-profile-one : Determined locals.local_profile.Kinds.ps locals.local_profile.Kinds.r locals.local_profile.Reads.Learnt
+local-profile-one κs a y z u v p q = (same p q, refl)
 
-pub after-step-one : (profile : Profile) (envelope : Envelope) (step : Step) → One (afterStep envelope profile step)
-after-step-one profile envelope step = one _
+pub after-step-one : Determined profiles.Profile.after_step.Kinds.ps profiles.Profile.after_step.Kinds.r profiles.Profile.after_step.Reads.Learnt
+after-step-one κs a y z u v p q = (same p q, refl)
 
 -- ---- planner
 
-pub plan-one : (envelope : Envelope) → One (planOf (checkEnvelope envelope))
-plan-one envelope = one _
+pub plan-one : Determined planner.plan.Kinds.ps planner.plan.Kinds.r planner.plan.Reads.Learnt
+plan-one κs a y z u v p q = (same p q, refl)
 
-pub plan-paper-one : (s : List ℕ) → One (planOf (readEnvelope s))
-plan-paper-one s = one _
+pub plan-paper-one : Determined planner.plan_paper.Kinds.ps planner.plan_paper.Kinds.r planner.plan_paper.Reads.Learnt
+plan-paper-one κs a y z u v p q = (same p q, refl)
+
+-- ---- listing
+
+pub put-listing-one : Determined listing.put_listing.Kinds.ps listing.put_listing.Kinds.r listing.put_listing.Reads.Learnt
+put-listing-one κs a y z u v p q = (same (p .0) (q .0), λ i. (same (p .1) (q .1) i, (tt, tt)))
+
+pub list-paper-one : Determined listing.list_paper.Kinds.ps listing.list_paper.Kinds.r listing.list_paper.Reads.Learnt
+list-paper-one κs a y z u v p q = (same (p .0) (q .0), λ i. (same (p .1) (q .1) i, (tt, tt)))

@@ -1,155 +1,161 @@
--- Of each public function on tables, marks, ends, messages and stores: two results that meet its contract's equation are equal,
--- and so is what it leaves in what is lent. put_front also asks for room, which the equation does not need.
-use Prim.Native.Nat.{ℕ}
-use lib.ListN.{getD, length}
-use lib.Seq.{sets}
-use mathlib.Core.Bool.{Bool, false}
-use mathlib.Core.List.{List, []}
-use Rattle.ground.specs.Outcome.{verdictOf}
-use Rattle.ground.specs.Refusing.{judgement}
-use Rattle.entries.specs.declared.places.Place.{Place}
-use Rattle.contents.specs.declared.envelope.Envelope.{Envelope}
-use Rattle.papers.specs.Checks.{shownPapers}
-use Rattle.papers.specs.declared.programs.Program.{Program}
-use Rattle.tables.specs.Offsets.{countIn, extentOf, rowCount}
-use Rattle.tables.specs.Rising.{isRising}
-use Rattle.tables.specs.Rows.{keptOver, wordOver}
-use Rattle.tables.specs.Shape.{columnTests, marksTests, shaped}
-use Rattle.tables.specs.Values.{gatheredIn, gatheredOf, occursIn, valuesOutcome}
-use Rattle.tables.specs.declared.offsets.Extent.{Extent}
-use Rattle.semijoin.specs.Local.{openOutcome}
-use Rattle.semijoin.specs.Marks.{marksAfter, reduceOutcome, reducedOf, removedBy}
-use Rattle.semijoin.specs.Run.{runOutcome}
-use Rattle.ends.specs.Ends.{noEnd, soundEnd, usable}
-use Rattle.ends.specs.Messages.{aboutOf, counted, messageOf}
-use Rattle.ends.specs.Reducing.{missingOf, placeOf, stepCount, stepOf}
-use Rattle.ends.specs.declared.ends.End.{End}
-use Rattle.station.specs.Making.{madeIn, makeRowsOf, makeValuesOf, shownMade}
-use Rattle.station.specs.Opening.{openOf, openedMarks, shownOpened}
-use Rattle.station.specs.Receiving.{Held, receiveOf, receivedMarks, receivedStore, shownReceived}
-use Rattle.answerer.specs.Answer.{answerOutcome, answeredIn, answeredOf}
-use Rattle.answerer.specs.Assembly.{assembledOutcome}
-use Rattle.demands.proofs.Unique.{One, OneLent, OneLentTwo, one, one-lent, one-lent-two}
+-- Of each public function on tables, marks, ends, messages and stores, and of each call of the boundary: its contract determines it.
+use Rattle.tables.proofs.offsets
+use Rattle.tables.proofs.rising
+use Rattle.tables.proofs.rows
+use Rattle.tables.proofs.shape
+use Rattle.tables.proofs.values
+use Rattle.semijoin.proofs.local
+use Rattle.semijoin.proofs.marks
+use Rattle.semijoin.proofs.run
+use Rattle.ends.proofs.ends
+use Rattle.ends.proofs.messages
+use Rattle.ends.proofs.reducing
+use Rattle.station.proofs.making
+use Rattle.station.proofs.opening
+use Rattle.station.proofs.receiving
+use Rattle.answerer.proofs.answer
+use Rattle.answerer.proofs.assembly
+use Rattle.boundary.proofs.given
+use Rattle.boundary.proofs.planning
+use Rattle.boundary.proofs.running
+use Rattle.boundary.proofs.stations
+use mathlib.Core.Path.{refl}
+use Rattle.demands.proofs.Unique.{Determined, same}
 
 -- ---- tables
 
-pub count-in-one : (envelope : Envelope) (tables : List ℕ) (relation : ℕ) → One (countIn envelope tables relation)
-count-in-one envelope tables relation = one _
+pub count-in-one : Determined offsets.count_in.Kinds.ps offsets.count_in.Kinds.r offsets.count_in.Reads.Learnt
+count-in-one κs a y z u v p q = (same p q, refl)
 
-pub extent-of-one : (envelope : Envelope) (tables : List ℕ) (relation : ℕ) → One (extentOf envelope tables relation)
-extent-of-one envelope tables relation = one _
+pub extent-of-one : Determined offsets.extent_of.Kinds.ps offsets.extent_of.Kinds.r offsets.extent_of.Reads.Learnt
+extent-of-one κs a y z u v p q = (same p q, refl)
 
-pub row-count-one : (envelope : Envelope) (tables : List ℕ) → One (rowCount envelope tables)
-row-count-one envelope tables = one _
+pub row-count-one : Determined offsets.row_count.Kinds.ps offsets.row_count.Kinds.r offsets.row_count.Reads.Learnt
+row-count-one κs a y z u v p q = (same p q, refl)
 
-pub is-rising-one : (values : List ℕ) → One (isRising values)
-is-rising-one values = one _
+pub is-rising-one : Determined rising.is_rising.Kinds.ps rising.is_rising.Kinds.r rising.is_rising.Reads.Learnt
+is-rising-one κs a y z u v p q = (same p q, refl)
 
-pub word-at-one : (tables : List ℕ) (extent : Extent) (row column : ℕ) → One (wordOver extent tables row column)
-word-at-one tables extent row column = one _
+pub word-at-one : Determined rows.word_at.Kinds.ps rows.word_at.Kinds.r rows.word_at.Reads.Learnt
+word-at-one κs a y z u v p q = (same p q, refl)
 
-pub is-kept-one : (marks : List ℕ) (extent : Extent) (row : ℕ) → One (keptOver extent marks row)
-is-kept-one marks extent row = one _
+pub is-kept-one : Determined rows.is_kept.Kinds.ps rows.is_kept.Kinds.r rows.is_kept.Reads.Learnt
+is-kept-one κs a y z u v p q = (same p q, refl)
 
-pub is-shaped-one : (envelope : Envelope) (tables : List ℕ) → One (shaped envelope tables)
-is-shaped-one envelope tables = one _
+pub is-shaped-one : Determined shape.is_shaped.Kinds.ps shape.is_shaped.Kinds.r shape.is_shaped.Reads.Learnt
+is-shaped-one κs a y z u v p q = (same p q, refl)
 
-pub judge-marks-one : (envelope : Envelope) (tables : List ℕ) (n : ℕ) → One (judgement (marksTests envelope tables n))
-judge-marks-one envelope tables n = one _
+pub judge-marks-one : Determined shape.judge_marks.Kinds.ps shape.judge_marks.Kinds.r shape.judge_marks.Reads.Learnt
+judge-marks-one κs a y z u v p q = (same p q, refl)
 
-pub judge-column-one : (envelope : Envelope) (place : Place) (tables : List ℕ) (n : ℕ)
-    → One (judgement (columnTests envelope place tables n))
-judge-column-one envelope place tables n = one _
+pub judge-column-one : Determined shape.judge_column.Kinds.ps shape.judge_column.Kinds.r shape.judge_column.Reads.Learnt
+judge-column-one κs a y z u v p q = (same p q, refl)
 
-pub values-into-one : (envelope : Envelope) (place : Place) (tables marks : List ℕ) (start : ℕ) (out : List ℕ)
-    → OneLent (gatheredOf (valuesOutcome envelope tables marks place start out))
-    (gatheredIn start out (valuesOutcome envelope tables marks place start out))
-values-into-one envelope place tables marks start out = one-lent _ _
+pub values-into-one : Determined values.values_into.Kinds.ps values.values_into.Kinds.r values.values_into.Reads.Learnt
+values-into-one κs a y z u v p q = (same (p .0) (q .0), λ i. (tt, (tt, (tt, (tt, (tt, (same (p .1) (q .1) i, tt)))))))
 
-pub occurs-in-one : (envelope : Envelope) (place : Place) (tables marks : List ℕ) (value : ℕ)
-    → One (occursIn envelope tables marks place value)
-occurs-in-one envelope place tables marks value = one _
+pub occurs-in-one : Determined values.occurs_in.Kinds.ps values.occurs_in.Kinds.r values.occurs_in.Reads.Learnt
+occurs-in-one κs a y z u v p q = (same p q, refl)
 
 -- ---- semijoin
 
-pub open-marks-one : (envelope : Envelope) (tables : List ℕ) (here : List Bool) (marks : List ℕ)
-    → OneLent (verdictOf (openOutcome envelope tables (λ r. getD here r false) marks))
-    (marksAfter marks (openOutcome envelope tables (λ r. getD here r false) marks))
-open-marks-one envelope tables here marks = one-lent _ _
+pub open-marks-one : Determined local.open_marks.Kinds.ps local.open_marks.Kinds.r local.open_marks.Reads.Learnt
+open-marks-one κs a y z u v p q = (same (p .0) (q .0), λ i. (tt, (tt, (tt, (same (p .1) (q .1) i, tt)))))
 
-pub reduce-by-one : (envelope : Envelope) (place : Place) (tables values marks : List ℕ)
-    → OneLent (reducedOf (removedBy envelope tables values place marks) (reduceOutcome envelope tables values place marks))
-    (marksAfter marks (reduceOutcome envelope tables values place marks))
-reduce-by-one envelope place tables values marks = one-lent _ _
+pub reduce-by-one : Determined marks.reduce_by.Kinds.ps marks.reduce_by.Kinds.r marks.reduce_by.Reads.Learnt
+reduce-by-one κs a y z u v p q = (same (p .0) (q .0), λ i. (tt, (tt, (tt, (tt, (same (p .1) (q .1) i, tt))))))
 
-pub run-in-one-place-one : (envelope : Envelope) (program : Program) (tables marks : List ℕ)
-    → OneLent (verdictOf (runOutcome envelope program tables marks)) (marksAfter marks (runOutcome envelope program tables marks))
-run-in-one-place-one envelope program tables marks = one-lent _ _
+pub run-in-one-place-one : Determined run.run_in_one_place.Kinds.ps run.run_in_one_place.Kinds.r run.run_in_one_place.Reads.Learnt
+run-in-one-place-one κs a y z u v p q = (same (p .0) (q .0), λ i. (tt, (tt, (tt, (same (p .1) (q .1) i, tt)))))
 
 -- ---- ends
 
-pub no-end-one : One noEnd
-no-end-one = one _
+pub no-end-one : Determined ends.no_end.Kinds.ps ends.no_end.Kinds.r ends.no_end.Reads.Learnt
+no-end-one κs a y z u v p q = (same p q, refl)
 
-pub sound-end-one : (end : End) → One (shownPapers (soundEnd end))
-sound-end-one end = one _
+pub sound-end-one : Determined ends.sound_end.Kinds.ps ends.sound_end.Kinds.r ends.sound_end.Reads.Learnt
+sound-end-one κs a y z u v p q = (same p q, refl)
 
-pub usable-end-one : (end : End) (tables : List ℕ) (n : ℕ) → One (shownPapers (usable end tables n))
-usable-end-one end tables n = one _
+pub usable-end-one : Determined ends.usable_end.Kinds.ps ends.usable_end.Kinds.r ends.usable_end.Reads.Learnt
+usable-end-one κs a y z u v p q = (same p q, refl)
 
-pub applied-of-one : (applied : List ℕ) (relation : ℕ) → One (getD applied relation 0)
-applied-of-one applied relation = one _
+pub applied-of-one : Determined ends.applied_of.Kinds.ps ends.applied_of.Kinds.r ends.applied_of.Reads.Learnt
+applied-of-one κs a y z u v p q = (same p q, refl)
 
-pub speaks-of-one : (steps relations second : ℕ) → One (aboutOf steps relations second)
-speaks-of-one steps relations second = one _
+pub speaks-of-one : Determined messages.speaks_of.Kinds.ps messages.speaks_of.Kinds.r messages.speaks_of.Reads.Learnt
+speaks-of-one κs a y z u v p q = (same p q, refl)
 
-pub is-counted-one : (message : List ℕ) (each : ℕ) → One (counted each message)
-is-counted-one message each = one _
+pub is-counted-one : Determined messages.is_counted.Kinds.ps messages.is_counted.Kinds.r messages.is_counted.Reads.Learnt
+is-counted-one κs a y z u v p q = (same p q, refl)
 
-pub put-front-one : (message : List ℕ) (run second count : ℕ) → One (sets message 0 (messageOf run second count []))
-put-front-one message run second count = one _
+pub put-front-one : Determined messages.put_front.Kinds.ps messages.put_front.Kinds.r messages.put_front.Reads.Learnt
+put-front-one κs a y z u v p q = (refl, λ i. (same p q i, (tt, (tt, (tt, tt)))))
 
-pub step-of-one : (program : Program) (n : ℕ) → One (stepOf program n)
-step-of-one program n = one _
+pub step-of-one : Determined reducing.step_of.Kinds.ps reducing.step_of.Kinds.r reducing.step_of.Reads.Learnt
+step-of-one κs a y z u v p q = (same p q, refl)
 
-pub step-count-one : (program : Program) → One (stepCount program)
-step-count-one program = one _
+pub step-count-one : Determined reducing.step_count.Kinds.ps reducing.step_count.Kinds.r reducing.step_count.Reads.Learnt
+step-count-one κs a y z u v p q = (same p q, refl)
 
-pub place-of-one : (program : Program) (relation n : ℕ) → One (placeOf program relation n)
-place-of-one program relation n = one _
+pub place-of-one : Determined reducing.place_of.Kinds.ps reducing.place_of.Kinds.r reducing.place_of.Reads.Learnt
+place-of-one κs a y z u v p q = (same p q, refl)
 
-pub missing-of-one : (program : Program) (relation applied n : ℕ) → One (missingOf program relation applied n)
-missing-of-one program relation applied n = one _
+pub missing-of-one : Determined reducing.missing_of.Kinds.ps reducing.missing_of.Kinds.r reducing.missing_of.Reads.Learnt
+missing-of-one κs a y z u v p q = (same p q, refl)
 
 -- ---- station
 
-pub make-values-one : (end : End) (tables marks : List ℕ) (step : ℕ) (message : List ℕ)
-    → OneLent (shownMade (makeValuesOf end tables marks step (length message)))
-    (madeIn message (makeValuesOf end tables marks step (length message)))
-make-values-one end tables marks step message = one-lent _ _
+pub make-values-one : Determined making.make_values.Kinds.ps making.make_values.Kinds.r making.make_values.Reads.Learnt
+make-values-one κs a y z u v p q = (same (p .0) (q .0), λ i. (tt, (tt, (tt, (tt, (same (p .1) (q .1) i, tt))))))
 
-pub make-rows-one : (end : End) (tables marks : List ℕ) (relation : ℕ) (message : List ℕ)
-    → OneLent (shownMade (makeRowsOf end tables marks relation (length message)))
-    (madeIn message (makeRowsOf end tables marks relation (length message)))
-make-rows-one end tables marks relation message = one-lent _ _
+pub make-rows-one : Determined making.make_rows.Kinds.ps making.make_rows.Kinds.r making.make_rows.Reads.Learnt
+make-rows-one κs a y z u v p q = (same (p .0) (q .0), λ i. (tt, (tt, (tt, (tt, (same (p .1) (q .1) i, tt))))))
 
-pub open-one : (envelope : Envelope) (program : Program) (site run : ℕ) (tables marks : List ℕ)
-    → OneLent (shownOpened (openOf envelope program site run tables marks))
-    (openedMarks marks (openOf envelope program site run tables marks))
-open-one envelope program site run tables marks = one-lent _ _
+pub open-one : Determined opening.open.Kinds.ps opening.open.Kinds.r opening.open.Reads.Learnt
+open-one κs a y z u v p q = (same (p .0) (q .0), λ i. (tt, (tt, (tt, (tt, (tt, (same (p .1) (q .1) i, tt)))))))
 
-pub receive-one : (end : End) (tables marks store message : List ℕ)
-    → OneLentTwo (shownReceived (λ (h : Held). h .end) end (receiveOf end tables marks store message))
-    (receivedMarks marks (receiveOf end tables marks store message))
-    (receivedStore store (receiveOf end tables marks store message))
-receive-one end tables marks store message = one-lent-two _ _ _
+pub receive-one : Determined receiving.receive.Kinds.ps receiving.receive.Kinds.r receiving.receive.Reads.Learnt
+receive-one κs a y z u v p q = (same (p .0) (q .0), λ i. (tt, (tt, (same (p .1) (q .1) i, (same (p .2) (q .2) i, (tt, tt))))))
 
 -- ---- answerer
 
-pub answer-one : (envelope : Envelope) (tables out : List ℕ)
-    → OneLent (answeredOf (answerOutcome envelope tables out)) (answeredIn out (answerOutcome envelope tables out))
-answer-one envelope tables out = one-lent _ _
+pub answer-one : Determined answer.answer.Kinds.ps answer.answer.Kinds.r answer.answer.Reads.Learnt
+answer-one κs a y z u v p q = (same (p .0) (q .0), λ i. (tt, (tt, (same (p .1) (q .1) i, tt))))
 
-pub answer-at-end-one : (end : End) (store out : List ℕ)
-    → OneLent (answeredOf (assembledOutcome end store out)) (answeredIn out (assembledOutcome end store out))
-answer-at-end-one end store out = one-lent _ _
+pub answer-at-end-one : Determined assembly.answer_at_end.Kinds.ps assembly.answer_at_end.Kinds.r assembly.answer_at_end.Reads.Learnt
+answer-at-end-one κs a y z u v p q = (same (p .0) (q .0), λ i. (tt, (tt, (same (p .1) (q .1) i, tt))))
+
+-- ---- boundary
+
+pub legestran-read-envelope-one : Determined given.legestran_read_envelope.Kinds.ps given.legestran_read_envelope.Kinds.r given.legestran_read_envelope.Reads.Learnt
+legestran-read-envelope-one κs a y z u v p q = (same p q, refl)
+
+pub legestran-read-program-one : Determined given.legestran_read_program.Kinds.ps given.legestran_read_program.Kinds.r given.legestran_read_program.Reads.Learnt
+legestran-read-program-one κs a y z u v p q = (same p q, refl)
+
+pub legestran-plan-one : Determined planning.legestran_plan.Kinds.ps planning.legestran_plan.Kinds.r planning.legestran_plan.Reads.Learnt
+legestran-plan-one κs a y z u v p q = (same (p .0) (q .0), λ i. (tt, (same (p .1) (q .1) i, tt)))
+
+pub legestran-estimate-one : Determined planning.legestran_estimate.Kinds.ps planning.legestran_estimate.Kinds.r planning.legestran_estimate.Reads.Learnt
+legestran-estimate-one κs a y z u v p q = (same (p .0) (q .0), λ i. (tt, (tt, (same (p .1) (q .1) i, tt))))
+
+pub legestran-run-in-one-place-one : Determined running.legestran_run_in_one_place.Kinds.ps running.legestran_run_in_one_place.Kinds.r running.legestran_run_in_one_place.Reads.Learnt
+legestran-run-in-one-place-one κs a y z u v p q = (same (p .0) (q .0), λ i. (tt, (tt, (tt, (same (p .1) (q .1) i, tt)))))
+
+pub legestran-answer-one : Determined running.legestran_answer.Kinds.ps running.legestran_answer.Kinds.r running.legestran_answer.Reads.Learnt
+legestran-answer-one κs a y z u v p q = (same (p .0) (q .0), λ i. (tt, (tt, (same (p .1) (q .1) i, tt))))
+
+pub legestran-open-one : Determined stations.legestran_open.Kinds.ps stations.legestran_open.Kinds.r stations.legestran_open.Reads.Learnt
+legestran-open-one κs a y z u v p q = (same (p .0) (q .0), λ i. (tt, (tt, (tt, (tt, (tt, (same (p .1) (q .1) i, (same (p .2) (q .2) i, tt))))))))
+
+pub legestran-make-values-one : Determined stations.legestran_make_values.Kinds.ps stations.legestran_make_values.Kinds.r stations.legestran_make_values.Reads.Learnt
+legestran-make-values-one κs a y z u v p q = (same (p .0) (q .0), λ i. (tt, (tt, (tt, (tt, (tt, (tt, (same (p .1) (q .1) i, tt))))))))
+
+pub legestran-make-rows-one : Determined stations.legestran_make_rows.Kinds.ps stations.legestran_make_rows.Kinds.r stations.legestran_make_rows.Reads.Learnt
+legestran-make-rows-one κs a y z u v p q = (same (p .0) (q .0), λ i. (tt, (tt, (tt, (tt, (tt, (tt, (same (p .1) (q .1) i, tt))))))))
+
+pub legestran-receive-one : Determined stations.legestran_receive.Kinds.ps stations.legestran_receive.Kinds.r stations.legestran_receive.Reads.Learnt
+legestran-receive-one κs a y z u v p q = (same (p .0) (q .0), λ i. (tt, (tt, (same (p .1) (q .1) i, (tt, (same (p .2) (q .2) i, (same (p .3) (q .3) i, (tt, tt))))))))
+
+pub legestran-answer-at-end-one : Determined stations.legestran_answer_at_end.Kinds.ps stations.legestran_answer_at_end.Kinds.r stations.legestran_answer_at_end.Reads.Learnt
+legestran-answer-at-end-one κs a y z u v p q = (same (p .0) (q .0), λ i. (tt, (tt, (tt, (tt, (same (p .1) (q .1) i, tt))))))
