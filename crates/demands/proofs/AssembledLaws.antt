@@ -37,7 +37,7 @@ use Rattle.answerer.proofs.StoreLaws.{held-lies}
 use Rattle.answerer.proofs.DeliveredLaws.{sentOf, Delivered, delivered-answer}
 use Rattle.demands.specs.Link.{Crew, Allowed, State, lentStore}
 use Rattle.demands.specs.DemandThree.{LowerMade, Lower}
-use Rattle.demands.specs.DemandThree.LowerMade.{values, rows}
+use Rattle.demands.specs.DemandThree.Made.{values, rows}
 use Rattle.demands.proofs.TakenLaws.{sound-end}
 use Rattle.demands.proofs.AppendedLaws.{held-map}
 use Rattle.demands.proofs.SoundLaws.{Kept, SoundAt, Sound, good-papers, lent-used, lent-same}

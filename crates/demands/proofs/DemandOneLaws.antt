@@ -1,291 +1,141 @@
 -- Demand 1 holds: each call's refusals have the numbers that 01 lists for it, and leave everything as it was.
-use mathlib.Core.Path.{_≡_, refl, ap, _∙_}
-use mathlib.Core.Bool.{Bool, false, not}
+use mathlib.Core.Path.{_≡_, ap, _∙_}
+use mathlib.Core.Bool.{Bool, true, false}
 use mathlib.Core.List.{List, [], _∷_, _++_, map, List·Memᴰ, List·Memᴰ·head, List·Memᴰ·tail, Memᴰ·append-left, Memᴰ·append-right}
 use mathlib.Core.Logic.{_⊎_, inl, inr}
-use Prim.Native.Nat.{ℕ, zero, suc}
-use lib.ListN.{length, getD, take, drop, set, replicate}
-use lib.Dec.{eqb, ltb}
-use Rattle.ground.specs.Lists.{Every}
-use Rattle.ground.specs.Outcome.{Outcome, next}
+use Prim.Native.Nat.{ℕ}
+use lib.ListN.{length}
+use Rattle.ground.specs.Outcome.{Outcome}
 use Rattle.ground.specs.Outcome.Outcome.{good, bad}
-use Rattle.ground.specs.Refusing.{Test, test, judged}
-use Rattle.ground.proofs.EveryLaws.{every-at}
-use Rattle.ground.proofs.OutcomeLaws.{good-bad, next-bad}
+use Rattle.ground.specs.Refusing.{Test, judgement}
+use Rattle.ground.specs.declared.Verdict.the-variants.{Refused}
+use Rattle.ground.proofs.OutcomeLaws.{never, good-bad, refused-is}
 use Rattle.ground.proofs.RefusingLaws.{judged-number}
-use Rattle.fields.specs.Refusals.{beyondLimit, wrongShape, tooShort, waiting, notOurs, notSound}
-use Rattle.contents.specs.Parts.{relationCount}
-use Rattle.contents.specs.Kept.{keptColumns}
+use Rattle.fields.specs.Refusals.{tooShort, waiting, notOurs}
 use Rattle.contents.specs.declared.envelope.Envelope.{Envelope}
 use Rattle.envelopes.specs.Envelope.{checkEnvelope, envelopeBytes}
-use Rattle.paths.specs.Meaning.{answerWords}
-use Rattle.papers.specs.Programs.{checkProgram, programBytes}
-use Rattle.papers.specs.Checks.{papersOf}
+use Rattle.paths.specs.Steps.{legal, legality, legalityOf}
+use Rattle.paths.specs.declared.steps.Step.{Step}
+use Rattle.paths.specs.declared.steps.Legality.{Legality}
+use Rattle.paths.specs.declared.steps.Legality.the-variants as Legality
+use Rattle.papers.specs.Programs.{readProgram, checkProgram, programBytes}
 use Rattle.papers.specs.declared.programs.Program.{Program}
-use Rattle.papers.specs.declared.checks.Papers.{Papers}
-use Rattle.tables.specs.Shape.{shaped}
+use Rattle.tables.specs.Shape.{marksTests, columnTests}
+use Rattle.tables.proofs.CallLaws.{values-number as gathered-number, values-stay}
 use Rattle.semijoin.specs.Marks.{marksAfter}
 use Rattle.semijoin.proofs.CallLaws.{call-promise}
-use Rattle.ends.specs.Ends.{overApplied, soundEnd}
-use Rattle.ends.specs.Messages.{runOf, secondOf, aboutOf, counted}
-use Rattle.ends.specs.declared.messages.About.{About}
-use Rattle.ends.specs.declared.messages.About.the-variants.{Step, Rows, Nothing}
 use Rattle.ends.specs.declared.ends.End.{End}
-use Rattle.ends.proofs.SoundLaws.{firstNumbers}
+use Rattle.ends.proofs.SoundLaws.{firstNumbers, usable-number}
 use Rattle.station.proofs.OpeningLaws.{open-number, open-untouched}
 use Rattle.station.proofs.MakingLaws.{values-number, rows-number, made-untouched}
 use Rattle.station.proofs.ReceivingLaws.{lastNumbers, received-number, received-marks, received-store, received-end}
-use Rattle.answerer.specs.Answer.{fitted, answerChecked, answerOutcome, answeredIn}
-use Rattle.answerer.specs.Stores.{wordsOf, metBy, messageAt, dueIn, layStored, laysFrom, sourceHeld, sourceOf, heldBy}
-use Rattle.answerer.specs.Sources.{noLay}
-use Rattle.answerer.specs.Assembly.{firstAwaited, answerFrom, assembled, assembledWith, assembledOutcome}
-use Rattle.answerer.specs.declared.sources.Lay.{Lay}
-use Rattle.answerer.specs.declared.sources.Source.{Source}
+use Rattle.answerer.specs.Answer.{answeredIn}
 use Rattle.demands.proofs.StructPapers.{check-struct, papers-struct}
-use Rattle.demands.proofs.PaperLaws.{read-number, check-number, program-read-number, program-check-number, papers-number, write-refused, plan-refused, estimate-refused}
-use Rattle.demands.specs.DemandOne.{papersNumbers, PapersOr, EnvelopeOr, DemandOne}
+use Rattle.demands.proofs.PaperLaws.{read-number, check-number, program-read-number, program-by-number, program-check-number, papers-number, write-refused, plan-refused, estimate-refused}
+use Rattle.demands.proofs.AnswerNumbers.{tables-number, sound-number, end-number}
+use Rattle.demands.specs.DemandOne.{ownPapers, EveryCall}
 
--- ---- the first refusals of a call on an end, then its own
-
-abbrev PapersTold : Envelope → Program → List ℕ → ℕ → ℕ → Type 0
-PapersTold e p numbers n u = (papersOf e p ≡ bad n u) ⊎ List·Memᴰ n numbers
-
-papers-or : (e : Envelope) (p : Program) (first rest : List ℕ) (n u : ℕ)
-    → ((papersOf e p ≡ bad n u) ⊎ (List·Memᴰ n first × (u ≡ 0))) ⊎ List·Memᴰ n rest → PapersTold e p (first ++ rest) n u
-papers-or e p first rest n u (inl (inl k)) = inl k
-papers-or e p first rest n u (inl (inr (m, _))) = inr (Memᴰ·append-left rest m)
-papers-or e p first rest n u (inr m) = inr (Memᴰ·append-right first m)
-
-only-number : {A B : Type 0} {C : Type 0} → A ⊎ (B × C) → A ⊎ B
-only-number (inl a) = inl a
-only-number (inr (b, _)) = inr b
+-- ---- what was lent stays
 
 answered-stays : (out : List ℕ) (o : Outcome (List ℕ)) (n u : ℕ) → o ≡ bad n u → answeredIn out o ≡ out
 unfolding answeredIn
 answered-stays out o n u h = rw h
 
--- ---- answering on tables
-
-fitted-number : (words out : List ℕ) (n u : ℕ) → fitted words out ≡ bad n u → List·Memᴰ n (tooShort ∷ [])
-unfolding fitted
-fitted-number words out n u h = go (judged-number (test (ltb (length out) (length words)) tooShort 0 ∷ []) (good words 0) n u h)
-  where
-    go : List·Memᴰ n (tooShort ∷ []) ⊎ (good words 0 ≡ bad n u) → List·Memᴰ n (tooShort ∷ [])
-    go (inl m) = m
-    go (inr k) = absurd (good-bad words 0 n u k)
-
-checked-number : (e : Envelope) (words out : List ℕ) (n u : ℕ) → answerChecked e words out ≡ bad n u → List·Memᴰ n (wrongShape ∷ tooShort ∷ [])
-unfolding answerChecked
-checked-number e words out n u h = go (judged-number (test (not (shaped e words)) wrongShape 0 ∷ []) (fitted (answerWords e words) out) n u h)
-  where
-    go : List·Memᴰ n (wrongShape ∷ []) ⊎ (fitted (answerWords e words) out ≡ bad n u) → List·Memᴰ n (wrongShape ∷ tooShort ∷ [])
-    go (inl m) = Memᴰ·append-left (tooShort ∷ []) m
-    go (inr k) = List·Memᴰ·tail (fitted-number (answerWords e words) out n u k)
-
-tables-number : (e : Envelope) (words out : List ℕ) (n u : ℕ) → answerOutcome e words out ≡ bad n u
-    → (checkEnvelope e ≡ bad n u) ⊎ List·Memᴰ n (wrongShape ∷ tooShort ∷ [])
-unfolding answerOutcome
-tables-number e words out n u h = go (next-bad (checkEnvelope e) _ n u h)
-  where
-    go : (checkEnvelope e ≡ bad n u) ⊎ ((f : Envelope) × (p : ℕ) × (checkEnvelope e ≡ good f p) × (answerChecked f words out ≡ bad n u))
-        → (checkEnvelope e ≡ bad n u) ⊎ List·Memᴰ n (wrongShape ∷ tooShort ∷ [])
-    go (inl k) = inl k
-    go (inr (f, p, _, k)) = inr (checked-number f words out n u k)
-
--- ---- answering at an end: a store that is not sound is 15 whatever is wrong with it
-
--- tests that all have one number, and what comes after has it too
-one-number : {A : Type 0} (k : ℕ) (ts : List Test) (o : Outcome A) → Every (λ (x : ℕ). x ≡ k) (map (λ (t : Test). t .number) ts)
-    → ((n u : ℕ) → o ≡ bad n u → n ≡ k) → (n u : ℕ) → judged ts o ≡ bad n u → n ≡ k
-one-number k ts o same rest n u h = go (judged-number ts o n u h)
-  where
-    go : List·Memᴰ n (map (λ (t : Test). t .number) ts) ⊎ (o ≡ bad n u) → n ≡ k
-    go (inl m) = every-at (λ (x : ℕ). x ≡ k) (map (λ (t : Test). t .number) ts) same m
-    go (inr z) = rest n u z
-
-bad-number : {A : Type 0} (k q n u : ℕ) → _≡_ {A = Outcome A} (bad k q) (bad n u) → n ≡ k
-bad-number k q n u h = cc
-
-module _ (e : Envelope) (run : ℕ) (words : List ℕ) where
-  met-number : (due : List Bool) (m : List ℕ) (at : ℕ) (w : About) (n u : ℕ) → metBy e due m at w ≡ bad n u → n ≡ notSound
-  unfolding metBy
-  met-number due m at (Rows r) n u h =
-      one-number notSound
-      (test (not (getD due r false)) notSound 0 ∷ test (not (counted (length (keptColumns e r)) (take (wordsOf e r m) m))) notSound 0 ∷ [])
-      (good r _) (refl, (refl, tt)) (λ n u z. absurd (good-bad r _ n u z)) n u h
-  met-number due m at (Step k) n u h = bad-number notSound 0 n u h
-  met-number due m at Nothing n u h = bad-number notSound 0 n u h
-
-  message-number : (due : List Bool) (at n u : ℕ) → messageAt e run words due at ≡ bad n u → n ≡ notSound
-  unfolding messageAt
-  message-number due at n u h =
-      let m = drop at words in
-      one-number notSound (test (ltb (length m) 3) notSound 0 ∷ test (not (eqb (runOf m) run)) notSound 0 ∷ [])
-      (metBy e due m at (aboutOf 0 (relationCount e) (secondOf m))) (refl, (refl, tt))
-      (met-number due m at (aboutOf 0 (relationCount e) (secondOf m))) n u h
-
-  lays-number : (k : ℕ) (due : List Bool) (lays : List Lay) (at n u : ℕ) → laysFrom e run words k due lays at ≡ bad n u → n ≡ notSound
-  unfolding laysFrom
-  lays-number zero due lays at n u h =
-      one-number notSound (test (not (eqb at (length words))) notSound 0 ∷ []) (good lays at) (refl, tt) (λ n u z. absurd (good-bad lays at n u z)) n u h
-  lays-number (suc k) due lays at n u h =
-      go (next-bad (messageAt e run words due at) _ n u h) (λ r past. lays-number k (set due r false) (set lays r (layStored e words r at)) past n u)
-    where
-      go : (messageAt e run words due at ≡ bad n u)
-          ⊎ ((r : ℕ) × (past : ℕ) × (messageAt e run words due at ≡ good r past)
-          × (laysFrom e run words k (set due r false) (set lays r (layStored e words r at)) past ≡ bad n u))
-          → ((r past : ℕ) → laysFrom e run words k (set due r false) (set lays r (layStored e words r at)) past ≡ bad n u → n ≡ notSound)
-          → n ≡ notSound
-      go (inl z) rest = message-number due at n u z
-      go (inr (r, past, _, z)) rest = rest r past z
-
-  held-number : (arrived : List Bool) (n u : ℕ) → sourceHeld e run arrived words ≡ bad n u → n ≡ notSound
-  unfolding sourceHeld
-  held-number arrived n u h = go (next-bad (laysFrom e run words (dueIn e arrived) arrived (replicate 8 noLay) 0) _ n u h)
-    where
-      go : (laysFrom e run words (dueIn e arrived) arrived (replicate 8 noLay) 0 ≡ bad n u)
-          ⊎ ((l : List Lay) × (p : ℕ) × (laysFrom e run words (dueIn e arrived) arrived (replicate 8 noLay) 0 ≡ good l p)
-          × (_≡_ {A = Outcome Source} (good (record { count = relationCount e; lays = l }) p) (bad n u)))
-          → n ≡ notSound
-      go (inl z) = lays-number (dueIn e arrived) arrived (replicate 8 noLay) 0 n u z
-      go (inr (l, p, _, z)) = absurd (good-bad _ p n u z)
-
-source-number : (e : Envelope) (x : End) (store : List ℕ) (n u : ℕ) → sourceOf e x store ≡ bad n u → n ≡ notSound
-unfolding sourceOf
-source-number e x store n u h =
-    one-number notSound (test (ltb (length store) (x .used)) notSound 0 ∷ []) (sourceHeld e (x .run) (x .arrived) (heldBy x store)) (refl, tt)
-    (held-number e (x .run) (heldBy x store) (x .arrived)) n u h
-
-assembled-number : (e : Envelope) (arrived : List Bool) (s : Source) (words out : List ℕ) (n u : ℕ) → assembled e arrived s words out ≡ bad n u
-    → List·Memᴰ n (waiting ∷ tooShort ∷ [])
-unfolding assembled
-assembled-number e arrived s words out n u h =
-    go
-    (judged-number (test (ltb (firstAwaited e arrived) (relationCount e)) waiting (firstAwaited e arrived) ∷ []) (fitted (answerFrom e s words) out) n u h)
-  where
-    go : List·Memᴰ n (waiting ∷ []) ⊎ (fitted (answerFrom e s words) out ≡ bad n u) → List·Memᴰ n (waiting ∷ tooShort ∷ [])
-    go (inl m) = Memᴰ·append-left (tooShort ∷ []) m
-    go (inr k) = List·Memᴰ·tail (fitted-number (answerFrom e s words) out n u k)
-
-with-number : (q : Papers) (x : End) (store out : List ℕ) (n u : ℕ) → assembledWith q x store out ≡ bad n u
-    → List·Memᴰ n (notOurs ∷ notSound ∷ waiting ∷ tooShort ∷ [])
-unfolding assembledWith
-with-number q x store out n u h = go (judged-number (test (not (eqb (x .site) (q .program .site))) notOurs 0 ∷ []) _ n u h)
-  where
-    rest : (sourceOf (q .envelope) x store ≡ bad n u)
-        ⊎ ((s : Source) × (p : ℕ) × (sourceOf (q .envelope) x store ≡ good s p) × (assembled (q .envelope) (x .arrived) s (heldBy x store) out ≡ bad n u))
-        → List·Memᴰ n (notSound ∷ waiting ∷ tooShort ∷ [])
-    rest (inl z) = List·Memᴰ·head (source-number (q .envelope) x store n u z)
-    rest (inr (s, p, _, z)) = List·Memᴰ·tail (assembled-number (q .envelope) (x .arrived) s (heldBy x store) out n u z)
-
-    go : List·Memᴰ n (notOurs ∷ [])
-        ⊎ (next (sourceOf (q .envelope) x store) (λ s _. assembled (q .envelope) (x .arrived) s (heldBy x store) out) ≡ bad n u)
-        → List·Memᴰ n (notOurs ∷ notSound ∷ waiting ∷ tooShort ∷ [])
-    go (inl m) = Memᴰ·append-left (notSound ∷ waiting ∷ tooShort ∷ []) m
-    go (inr z) = List·Memᴰ·tail (rest (next-bad (sourceOf (q .envelope) x store) _ n u z))
-
--- the papers' refusal, or 4
-sound-number : (x : End) (n u : ℕ) → soundEnd x ≡ bad n u → (papersOf (x .envelope) (x .program) ≡ bad n u) ⊎ (n ≡ beyondLimit)
-unfolding soundEnd
-sound-number x n u h = go (next-bad (papersOf (x .envelope) (x .program)) _ n u h)
-  where
-    go : (papersOf (x .envelope) (x .program) ≡ bad n u)
-        ⊎ ((q : Papers) × (p : ℕ) × (papersOf (x .envelope) (x .program) ≡ good q p)
-        × (judged (test (overApplied (q .program) (relationCount (q .envelope)) (x .applied)) beyondLimit 0 ∷ []) (good q p) ≡ bad n u))
-        → (papersOf (x .envelope) (x .program) ≡ bad n u) ⊎ (n ≡ beyondLimit)
-    go (inl k) = inl k
-    go (inr (q, p, _, k)) =
-        inr
-        (one-number beyondLimit (test (overApplied (q .program) (relationCount (q .envelope)) (x .applied)) beyondLimit 0 ∷ []) (good q p) (refl, tt)
-        (λ n u z. absurd (good-bad q p n u z)) n u k)
-
-end-number : (x : End) (store out : List ℕ) (n u : ℕ) → assembledOutcome x store out ≡ bad n u
-    → PapersTold (x .envelope) (x .program) (beyondLimit ∷ notOurs ∷ notSound ∷ waiting ∷ tooShort ∷ []) n u
-unfolding assembledOutcome
-end-number x store out n u h = go (next-bad (soundEnd x) _ n u h)
-  where
-    first : (papersOf (x .envelope) (x .program) ≡ bad n u) ⊎ (n ≡ beyondLimit)
-        → PapersTold (x .envelope) (x .program) (beyondLimit ∷ notOurs ∷ notSound ∷ waiting ∷ tooShort ∷ []) n u
-    first (inl k) = inl k
-    first (inr k) = inr (List·Memᴰ·head k)
-
-    go : (soundEnd x ≡ bad n u) ⊎ ((q : Papers) × (p : ℕ) × (soundEnd x ≡ good q p) × (assembledWith q x store out ≡ bad n u))
-        → PapersTold (x .envelope) (x .program) (beyondLimit ∷ notOurs ∷ notSound ∷ waiting ∷ tooShort ∷ []) n u
-    go (inl z) = first (sound-number x n u z)
-    go (inr (q, p, _, z)) = inr (List·Memᴰ·tail (with-number q x store out n u z))
-
--- ---- all calls
-
 marks-stay : (marks : List ℕ) (o : Outcome (List ℕ)) (n u : ℕ) → o ≡ bad n u → marksAfter marks o ≡ marks
 marks-stay marks o n u h = ap (marksAfter marks) h ∙ call-promise .marks-kept marks n u
 
--- with the numbers that papers are refused by
-bounded : (e : Envelope) (p : Program) (numbers : List ℕ) (n u : ℕ) → PapersTold e p numbers n u → PapersOr e p numbers n u
-bounded e p numbers n u (inl k) = inl (k, papers-number e p n u k)
-bounded e p numbers n u (inr m) = inr m
+-- ---- numbers
 
-bounded-envelope : (e : Envelope) (numbers : List ℕ) (n u : ℕ) → (checkEnvelope e ≡ bad n u) ⊎ List·Memᴰ n numbers → EnvelopeOr e numbers n u
-bounded-envelope e numbers n u (inl k) = inl (k, check-number e n u k)
-bounded-envelope e numbers n u (inr m) = inr m
+only-number : {A B : Type 0} {C : Type 0} → A ⊎ (B × C) → A ⊎ B
+only-number (inl a) = inl a
+only-number (inr (b, _)) = inr b
 
-envelope-write : (e : Envelope) (n u : ℕ) → (checkEnvelope e ≡ bad n u) ⊎ (n ≡ tooShort) → EnvelopeOr e (tooShort ∷ []) n u
-envelope-write e n u (inl k) = inl (k, check-number e n u k)
-envelope-write e n u (inr k) = inr (List·Memᴰ·head k)
+one-of : {A : Type 0} {n k : ℕ} → A ⊎ (n ≡ k) → A ⊎ List·Memᴰ n (k ∷ [])
+one-of (inl a) = inl a
+one-of (inr k) = inr (List·Memᴰ·head k)
 
-program-write : (e : Envelope) (p : Program) (n u : ℕ) → (checkProgram e p ≡ bad n u) ⊎ (n ≡ tooShort) → List·Memᴰ n (tooShort ∷ papersNumbers)
-program-write e p n u (inl k) = List·Memᴰ·tail (program-check-number e p n u k)
-program-write e p n u (inr k) = List·Memᴰ·head k
+-- the first refusals of a call on an end, then its own
+first-or : {A : Type 0} (first rest : List ℕ) (n u : ℕ) → (A ⊎ (List·Memᴰ n first × (u ≡ 0))) ⊎ List·Memᴰ n rest → A ⊎ List·Memᴰ n (first ++ rest)
+first-or first rest n u (inl (inl a)) = inl a
+first-or first rest n u (inl (inr (m, _))) = inr (Memᴰ·append-left rest m)
+first-or first rest n u (inr m) = inr (Memᴰ·append-right first m)
 
-estimate-number : (e : Envelope) (p : Program) (n u : ℕ) → (checkEnvelope e ≡ bad n u) ⊎ (checkProgram e p ≡ bad n u) → List·Memᴰ n papersNumbers
-estimate-number e p n u (inl k) = List·Memᴰ·tail (check-number e n u k)
-estimate-number e p n u (inr k) = program-check-number e p n u k
+-- tests that are judged alone
+judged-alone : (ts : List Test) (n u : ℕ) → judgement ts ≡ Refused n u → List·Memᴰ n (map (λ (t : Test). t .number) ts)
+unfolding judgement
+judged-alone ts n u h = go (judged-number ts _ n u (refused-is _ n u h))
+  where
+    go : List·Memᴰ n (map (λ (t : Test). t .number) ts) ⊎ (good (tt {0}) 0 ≡ bad n u) → List·Memᴰ n (map (λ (t : Test). t .number) ts)
+    go (inl m) = m
+    go (inr z) = absurd (good-bad (tt {0}) 0 n u z)
 
-end-or : (x : End) (first rest : List ℕ) (n u : ℕ)
-    → ((papersOf (x .envelope) (x .program) ≡ bad n u) ⊎ (List·Memᴰ n first × (u ≡ 0))) ⊎ List·Memᴰ n rest
-    → PapersOr (x .envelope) (x .program) (first ++ rest) n u
-end-or x first rest n u h = bounded (x .envelope) (x .program) (first ++ rest) n u (papers-or (x .envelope) (x .program) first rest n u h)
+-- ---- refused as the papers are
 
-pub demand-one : DemandOne
-demand-one =
+legality-refused : (o : Outcome Envelope) (t : Step) (n u : ℕ) → legalityOf o t ≡ Legality.Refused n u → o ≡ bad n u
+unfolding legalityOf legality
+legality-refused (bad m q) t n u h = cc
+legality-refused (good e q) t n u h = go (legal e t) h
+  where
+    go : (b : Bool) → legality b ≡ Legality.Refused n u → good e q ≡ bad n u
+    go true k = let z : _≡_ {A = ℕ} 0 1 = cc in absurd (never z)
+    go false k = let z : _≡_ {A = ℕ} 0 1 = cc in absurd (never z)
+
+-- a program is refused as its envelope is
+program-first : (e : Envelope) (p : Program) (n u : ℕ) → (checkEnvelope e ≡ bad n u) ⊎ (checkProgram e p ≡ bad n u) → checkProgram e p ≡ bad n u
+unfolding checkProgram readProgram
+program-first e p n u (inl h) = rw h
+program-first e p n u (inr h) = h
+
+-- ---- all calls
+
+pub demand-one : EveryCall
+demand-one e p x s words marks store out =
     record {
-      envelope-read = read-number;
-      program-read = program-read-number;
-      envelope-written = λ e out n u h.
-          let (k, stays) = write-refused (checkEnvelope e) (envelopeBytes e) out n u h in (envelope-write e n u k, stays);
-      program-written = λ e p out n u h.
-          let (k, stays) = write-refused (checkProgram e p) (programBytes p) out n u h in (program-write e p n u k, stays);
-      envelope-struct = check-struct;
-      papers-struct = papers-struct;
-      planning = λ e n u h. check-number e n u (plan-refused (checkEnvelope e) n u h);
-      planning-bytes = λ s n u h. read-number s n u (plan-refused _ n u h);
-      estimating = λ e p n u h. estimate-number e p n u (estimate-refused (checkEnvelope e) (checkProgram e p) n u h);
-      opening-marks = λ e words here marks n u h. (
-        bounded-envelope e _ n u (only-number (call-promise .open-number e words here marks n u h)),
-        marks-stay marks _ n u h,
+      envelope-read = read-number s;
+      program-read = program-read-number e s;
+      program-by = λ lawful. program-by-number lawful e s;
+      envelope-checked = check-number e;
+      program-checked = program-check-number e p;
+      papers-checked = papers-number e p;
+      envelope-struct = check-struct e;
+      papers-struct = λ fits small. papers-struct e fits p small;
+      envelope-written = (
+        λ n u h. one-of (write-refused (checkEnvelope e) (envelopeBytes e) out n u h .0),
+        λ n u h. write-refused (checkEnvelope e) (envelopeBytes e) out n u h .1,
       );
-      reducing = λ e words values a marks n u h. (call-promise .reduce-number e words values a marks n u h .0, marks-stay marks _ n u h);
-      opening = λ e p site run words marks n u h. (
-        bounded e p _ n u (only-number (open-number site run words marks e p n u h)),
-        open-untouched site run words marks e p n u h,
+      program-written = (
+        λ n u h. one-of (write-refused (checkProgram e p) (programBytes p) out n u h .0),
+        λ n u h. write-refused (checkProgram e p) (programBytes p) out n u h .1,
       );
-      in-one-place = λ e p words marks n u h. (bounded e p _ n u (only-number (call-promise .run-number e p words marks n u h)), marks-stay marks _ n u h);
-      making-values = λ x words marks step out n u h. (
-        end-or x firstNumbers (notOurs ∷ waiting ∷ tooShort ∷ []) n u (values-number x words marks step (length out) n u h),
-        made-untouched out _ n u h,
+      legality = λ t n u h. inl (legality-refused (checkEnvelope e) t n u h);
+      selections = λ r n u h. inl (refused-is (checkEnvelope e) n u h);
+      equalities = λ r n u h. inl (refused-is (checkEnvelope e) n u h);
+      planning = λ n u h. inl (plan-refused (checkEnvelope e) n u h);
+      planning-bytes = λ n u h. inl (plan-refused _ n u h);
+      estimating = λ n u h. inl (program-first e p n u (estimate-refused (checkEnvelope e) (checkProgram e p) n u h));
+      marks-judged = λ k. judged-alone (marksTests e words k);
+      column-judged = λ a k. judged-alone (columnTests e a words k);
+      gathering = λ a start. (λ n u h. gathered-number e a words marks start out n u h .0, values-stay e a words marks start out);
+      opening-marks = λ here. (λ n u h. only-number (call-promise .open-number e words here marks n u h), marks-stay marks _);
+      reducing = λ values a. (λ n u h. call-promise .reduce-number e words values a marks n u h .0, marks-stay marks _);
+      in-one-place = (λ n u h. only-number (call-promise .run-number e p words marks n u h), marks-stay marks _);
+      opening = λ site run. (λ n u h. only-number (open-number site run words marks e p n u h), open-untouched site run words marks e p);
+      sound = λ n u h. one-of (sound-number x n u h);
+      ready = λ k n u h. only-number (usable-number x words k n u h);
+      making-values = λ step. (
+        λ n u h. first-or firstNumbers (notOurs ∷ waiting ∷ tooShort ∷ []) n u (values-number x words marks step (length out) n u h),
+        made-untouched out _,
       );
-      making-rows = λ x words marks r out n u h. (
-        end-or x firstNumbers (notOurs ∷ waiting ∷ tooShort ∷ []) n u (rows-number x words marks r (length out) n u h),
-        made-untouched out _ n u h,
+      making-rows = λ r. (
+        λ n u h. first-or firstNumbers (notOurs ∷ waiting ∷ tooShort ∷ []) n u (rows-number x words marks r (length out) n u h),
+        made-untouched out _,
       );
-      receiving = λ x words marks store m n u h. (
-        end-or x firstNumbers lastNumbers n u (only-number (received-number x words marks store m n u h)),
-        received-end x words marks store m n u h,
-        received-marks x words marks store m n u h,
-        received-store x words marks store m n u h,
+      receiving = (
+        λ n u h. first-or firstNumbers lastNumbers n u (only-number (received-number x words marks store s n u h)),
+        received-marks x words marks store s,
+        received-store x words marks store s,
+        received-end x words marks store s,
       );
-      answering-tables = λ e words out n u h. (bounded-envelope e _ n u (tables-number e words out n u h), answered-stays out _ n u h);
-      answering-end = λ x store out n u h. (
-        bounded (x .envelope) (x .program) _ n u (end-number x store out n u h),
-        answered-stays out _ n u h,
-      );
+      answering-tables = (tables-number e words out, answered-stays out _);
+      answering-end = (end-number x store out, answered-stays out _);
     }

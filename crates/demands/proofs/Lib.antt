@@ -3,6 +3,7 @@ pub mod NumberLaws
 pub mod PaperLaws
 pub mod StructLaws
 pub mod StructPapers
+pub mod AnswerNumbers
 pub mod DemandOneLaws
 pub mod DemandTwoLaws
 pub mod CrewLaws

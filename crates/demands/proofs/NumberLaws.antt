@@ -62,25 +62,10 @@ module _ (P : ℕ → Type 0) where
 
   -- ---- fields
 
-  module _ (one : P endsInside) (four : P beyondLimit) where
-    number : (w : ℕ) (s : List ℕ) (at : ℕ) → Refuses (numberAt w s at)
+  module _ (one : P endsInside) where
+    pub number : (w : ℕ) (s : List ℕ) (at : ℕ) → Refuses (numberAt w s at)
     unfolding numberAt
     number w s at = picked (leb (at + w) (length s)) _ _ (taken (littleEnd w s at) (at + w)) (refused endsInside at one)
-
-    number-that : (fits : ℕ → Bool) (w : ℕ) (s : List ℕ) (at : ℕ) → Refuses (numberThat fits w s at)
-    unfolding numberThat
-    number-that fits w s at = chained (numberAt w s at) _ (number w s at) (λ v p. picked (fits v) _ _ (taken v p) (refused beyondLimit at four))
-
-    -- a number that passes a test, and what comes after it
-    then : {B : Type 0} (fits : ℕ → Bool) (w : ℕ) (s : List ℕ) (at : ℕ) (k : ℕ → ℕ → Outcome B)
-        → ((v p : ℕ) → Refuses (k v p)) → Refuses (next (numberThat fits w s at) k)
-    then fits w s at k x = chained (numberThat fits w s at) k (number-that fits w s at) x
-
-    place-number : (count : ℕ) (relations : List Relation) (s : List ℕ) (at : ℕ) → Refuses (placeAt count relations s at)
-    unfolding placeAt
-    place-number count relations s at =
-        then (under count) 1 s at _
-        (λ r p. then (under (columnCount (getD relations r pastRelation))) 1 s p _ (λ c q. taken (place r c) q))
 
     mark-number : P wrongMark → (letters s : List ℕ) → Refuses (markOf letters s)
     unfolding markOf
@@ -94,10 +79,26 @@ module _ (P : ℕ → Type 0) where
     version-number three newest s at =
         chained (numberAt 2 s at) _ (number 2 s at) (λ v q. picked (between 1 newest v) _ _ (taken v q) (refused wrongVersion at three))
 
-    head-number : P wrongMark → P wrongVersion → (letters : List ℕ) (newest : ℕ) (s : List ℕ) → Refuses (headOf letters newest s)
+    pub head-number : P wrongMark → P wrongVersion → (letters : List ℕ) (newest : ℕ) (s : List ℕ) → Refuses (headOf letters newest s)
     unfolding headOf
     head-number two three letters newest s =
         chained (markOf letters s) _ (mark-number two letters s) (λ _ p. version-number three newest s p)
+
+  module _ (one : P endsInside) (four : P beyondLimit) where
+    pub number-that : (fits : ℕ → Bool) (w : ℕ) (s : List ℕ) (at : ℕ) → Refuses (numberThat fits w s at)
+    unfolding numberThat
+    number-that fits w s at = chained (numberAt w s at) _ (number one w s at) (λ v p. picked (fits v) _ _ (taken v p) (refused beyondLimit at four))
+
+    -- a number that passes a test, and what comes after it
+    then : {B : Type 0} (fits : ℕ → Bool) (w : ℕ) (s : List ℕ) (at : ℕ) (k : ℕ → ℕ → Outcome B)
+        → ((v p : ℕ) → Refuses (k v p)) → Refuses (next (numberThat fits w s at) k)
+    then fits w s at k x = chained (numberThat fits w s at) k (number-that fits w s at) x
+
+    pub place-number : (count : ℕ) (relations : List Relation) (s : List ℕ) (at : ℕ) → Refuses (placeAt count relations s at)
+    unfolding placeAt
+    place-number count relations s at =
+        then (under count) 1 s at _
+        (λ r p. then (under (columnCount (getD relations r pastRelation))) 1 s p _ (λ c q. taken (place r c) q))
 
     -- ---- entries of an envelope
 
@@ -109,7 +110,7 @@ module _ (P : ℕ → Type 0) where
         (λ w q. then (between (min 1 rows) (min rows (getD sizes d 0))) 4 s q _
         (λ n u. taken (record { domain = d; width = w; distinct = n }) u)))
 
-    relation-number : (count : ℕ) (sizes s : List ℕ) (at : ℕ) → Refuses (relationAt count sizes s at)
+    pub relation-number : (count : ℕ) (sizes s : List ℕ) (at : ℕ) → Refuses (relationAt count sizes s at)
     unfolding relationAt columnsThen
     relation-number count sizes s at =
         then (between 0 7) 1 s at _
@@ -123,7 +124,7 @@ module _ (P : ℕ → Type 0) where
       unfolding selectionAt
       selection-number count relations s at =
           chained (placeAt count relations s at) _ (place-number count relations s at)
-          (λ a q. chained (numberAt 4 s q) _ (number 4 s q) (λ v u. taken (clause (Selection a v)) u))
+          (λ a q. chained (numberAt 4 s q) _ (number one 4 s q) (λ v u. taken (clause (Selection a v)) u))
 
       join-number : (count : ℕ) (relations : List Relation) (s : List ℕ) (start at : ℕ) → Refuses (joinAt count relations s start at)
       unfolding joinAt joined
@@ -134,7 +135,7 @@ module _ (P : ℕ → Type 0) where
           (picked (samePlace a b) _ _ (refused sameColumn start six) (taken (clause (Join a b)) u))
           (refused twoDomains start five)))
 
-      clause-number : (count : ℕ) (relations : List Relation) (s : List ℕ) (at : ℕ) → Refuses (clauseAt count relations s at)
+      pub clause-number : (count : ℕ) (relations : List Relation) (s : List ℕ) (at : ℕ) → Refuses (clauseAt count relations s at)
       unfolding clauseAt
       clause-number count relations s at =
           then (between 1 2) 1 s at _
@@ -185,7 +186,7 @@ module _ (P : ℕ → Type 0) where
         pub envelope-number : P wrongMark → P wrongVersion → Refuses (readEnvelope s)
         unfolding envelopeFrom
         envelope-number two three =
-            chained (headOf CPN 1 s) _ (head-number two three CPN 1 s) (λ v p. sizes-number p (withVersion v noEnvelope))
+            chained (headOf CPN 1 s) _ (head-number one two three CPN 1 s) (λ v p. sizes-number p (withVersion v noEnvelope))
 
     -- ---- a program against a good envelope
 
@@ -200,7 +201,7 @@ module _ (P : ℕ → Type 0) where
         → Refuses (programBy lawful e s)
     unfolding programBy stepsThen endedProgram
     program-number two three seven eight lawful e s =
-        chained (headOf SJP 1 s) _ (head-number two three SJP 1 s)
+        chained (headOf SJP 1 s) _ (head-number one two three SJP 1 s)
         (λ _ p. then (holds e) 1 s p _
         (λ site q. then (between 0 156) 1 s q _
         (λ n u. chained (numbered (stepAt lawful e s) 0 n u) _ (several (stepAt lawful e s) (step-number eight lawful e s) 0 n u)

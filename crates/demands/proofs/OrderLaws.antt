@@ -29,7 +29,7 @@ use Rattle.ends.proofs.MessageLaws.{about-rows, row-run, row-second}
 use Rattle.station.proofs.MadeLaws.{rows-counted}
 use Rattle.station.proofs.RoomLaws.{message-most}
 use Rattle.demands.specs.Link.{Crew, Allowed, State, start, Event, Possible, withMade, withTaken, lentStore, after, afterAll, Follows}
-use Rattle.demands.specs.Orderly.{sendsStep, bringsStep, stepsInOrder, sendsRows, bringsRows, rowsInOrder, inOrder, IsTaken, AllTaken, Happens, InOrder}
+use Rattle.demands.specs.Orderly.{sendsStep, bringsStep, sendsRows, bringsRows, inTurn, inOrder, IsTaken, AllTaken, Happens, InOrder}
 use Rattle.demands.proofs.TakenLaws.{rows-by}
 use Rattle.demands.proofs.SoundLaws.{SoundAt, Sound, room-at, received, good-papers, taken-here, taken-there}
 use Rattle.demands.proofs.StartLaws.{opened-end, no-steps, none-arrived, sound-start, sound-next}
@@ -127,7 +127,7 @@ module _ (c : Crew) (w : Allowed c) (room : ℕ) (wide : 16400 ≤ room) where
     abbrev then : State
     then = withTaken mid A store (good now 0)
 
-    after-came : after c mid (bringsRows c room mid) ≡ then
+    after-came : after c mid (bringsRows c room mid k) ≡ then
     unfolding after
     after-came = ap (withTaken mid A store) came
 
@@ -137,7 +137,7 @@ module _ (c : Crew) (w : Allowed c) (room : ℕ) (wide : 16400 ≤ room) where
     then-sound : Sound c then
     then-sound =
         let one : Sound c mid = rw after-made at (sound-next c w s (sendsRows c room k) (ready .sound) (site-few c w k few)) in
-        rw after-came at (sound-next c w mid (bringsRows c room mid) one (assembly-few c w, inl (List·Memᴰ·head refl)))
+        rw after-came at (sound-next c w mid (bringsRows c room mid k) one (assembly-few c w, inl (List·Memᴰ·head refl)))
 
     now-applied : (r : ℕ) → appliedOf (now .end) r ≡ appliedOf (to .end) r
     unfolding withArrived
@@ -176,9 +176,9 @@ module _ (c : Crew) (w : Allowed c) (room : ℕ) (wide : 16400 ≤ room) where
         arrived r h (no t) = now-others r t ∙ ready .here r (split k r (λ l. absurd (t (omega arith))) (λ l. l))
 
     rows-done : Possible c s (sendsRows c room k) × IsTaken c s (sendsRows c room k)
-        × Possible c (after c s (sendsRows c room k)) (bringsRows c room (after c s (sendsRows c room k)))
-        × IsTaken c (after c s (sendsRows c room k)) (bringsRows c room (after c s (sendsRows c room k)))
-        × Ready c w (stepCount p) (suc k) (after c (after c s (sendsRows c room k)) (bringsRows c room (after c s (sendsRows c room k))))
+        × Possible c (after c s (sendsRows c room k)) (bringsRows c room (after c s (sendsRows c room k)) k)
+        × IsTaken c (after c s (sendsRows c room k)) (bringsRows c room (after c s (sendsRows c room k)) k)
+        × Ready c w (stepCount p) (suc k) (after c (after c s (sendsRows c room k)) (bringsRows c room (after c s (sendsRows c room k)) k))
     rows-done =
         rw after-made (
           site-few c w k few,
@@ -194,8 +194,8 @@ module _ (c : Crew) (w : Allowed c) (room : ℕ) (wide : 16400 ≤ room) where
   abbrev Goes : State → List Event → (State → Type 0) → Type 0
   Goes s xs Q = Follows c s xs × AllTaken c s xs × Q (afterAll c s xs)
 
-  all-steps : (d n : ℕ) (s : State) → n + d ≡ stepCount p → Ready c w n 0 s → Goes s (stepsInOrder c room s (numbersFrom n d)) (Ready c w (stepCount p) 0)
-  unfolding numbersFrom stepsInOrder
+  all-steps : (d n : ℕ) (s : State) → n + d ≡ stepCount p → Ready c w n 0 s → Goes s (inTurn c (sendsStep c room) (bringsStep c room) s (numbersFrom n d)) (Ready c w (stepCount p) 0)
+  unfolding numbersFrom inTurn
   all-steps zero n s end ready = let z : n ≡ stepCount p = omega arith in (tt, tt, rw z at ready)
   all-steps (suc d) n s end ready =
       let (first, sent, second, came, next) = step-done c w room wide n (omega arith) s ready in
@@ -207,14 +207,14 @@ module _ (c : Crew) (w : Allowed c) (room : ℕ) (wide : 16400 ≤ room) where
       ((first, (second, follows)), (sent, (came, taken)), last)
 
   all-rows : (d k : ℕ) (s : State) → k + d ≡ relationCount e → Ready c w (stepCount p) k s
-      → Goes s (rowsInOrder c room s (numbersFrom k d)) (Ready c w (stepCount p) (relationCount e))
-  unfolding numbersFrom rowsInOrder
+      → Goes s (inTurn c (sendsRows c room) (bringsRows c room) s (numbersFrom k d)) (Ready c w (stepCount p) (relationCount e))
+  unfolding numbersFrom inTurn
   all-rows zero k s end ready = let z : k ≡ relationCount e = omega arith in (tt, tt, rw z at ready)
   all-rows (suc d) k s end ready =
       let (first, sent, second, came, next) = rows-done k (omega arith) s ready in
       let one : k + 1 ≡ suc k = omega arith in
       let mid = after c s (sendsRows c room k) in
-      let then = after c mid (bringsRows c room mid) in
+      let then = after c mid (bringsRows c room mid k) in
       let ready-next : Ready c w (stepCount p) (k + 1) then = rw one next in
       let (follows, taken, last) = all-rows d (k + 1) then (omega arith) ready-next in
       ((first, (second, follows)), (sent, (came, taken)), last)
@@ -250,9 +250,9 @@ module _ (c : Crew) (w : Allowed c) (room : ℕ) (wide : 16400 ≤ room) where
   happens =
       let zero-more : 0 + stepCount p ≡ stepCount p = omega arith in
       let none-yet : 0 + relationCount e ≡ relationCount e = omega arith in
-      let steps = stepsInOrder c room (start c) (below (stepCount p)) in
+      let steps = inTurn c (sendsStep c room) (bringsStep c room) (start c) (below (stepCount p)) in
       let (f, t, ready) = all-steps (stepCount p) 0 (start c) zero-more start-ready in
-      let rows = rowsInOrder c room (afterAll c (start c) steps) (below (relationCount e)) in
+      let rows = inTurn c (sendsRows c room) (bringsRows c room) (afterAll c (start c) steps) (below (relationCount e)) in
       let (g, u, done) = all-rows (relationCount e) 0 (afterAll c (start c) steps) none-yet ready in
       record {
         possible = follows-all steps rows (start c) f g;

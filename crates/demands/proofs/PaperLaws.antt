@@ -2,7 +2,7 @@
 -- is refused by those or 11, and then leaves the buffer.
 use mathlib.Core.Path.{_≡_, refl}
 use mathlib.Core.Bool.{Bool, true, false}
-use mathlib.Core.List.{List, List·Memᴰ, List·Memᴰ·head, List·Memᴰ·tail}
+use mathlib.Core.List.{List, [], _∷_, List·Memᴰ, List·Memᴰ·head, List·Memᴰ·tail}
 use mathlib.Core.Logic.{_⊎_, inl, inr}
 use Prim.Native.Nat.{ℕ}
 use lib.ListN.{length}
@@ -13,14 +13,15 @@ use Rattle.ground.specs.Outcome.{Outcome, next, verdictOf}
 use Rattle.ground.specs.Outcome.Outcome.{good, bad}
 use Rattle.ground.specs.declared.Verdict.the-variants.{Refused}
 use Rattle.ground.proofs.OutcomeLaws.{never, good-bad, next-bad}
-use Rattle.fields.specs.Refusals.{tooShort}
+use Rattle.fields.specs.Refusals.{endsInside, wrongMark, wrongVersion, beyondLimit, leftOver, notLegal, tooShort}
 use Rattle.fields.specs.Puts.{frontOf, frontIn, writtenOf, writtenIn}
 use Rattle.fields.specs.declared.puts.Written.{Written}
 use Rattle.fields.specs.declared.puts.Written.the-variants as Written
 use Rattle.contents.specs.declared.envelope.Envelope.{Envelope}
 use Rattle.envelopes.specs.Envelope.{readEnvelope, checkEnvelope, envelopeBytes}
 use Rattle.paths.specs.Steps.{legal}
-use Rattle.papers.specs.Programs.{programAgainst, readProgram, checkProgram, programBytes}
+use Rattle.paths.specs.declared.steps.Step.{Step}
+use Rattle.papers.specs.Programs.{programBy, programAgainst, readProgram, checkProgram, programBytes}
 use Rattle.papers.specs.Checks.{papersOf}
 use Rattle.papers.specs.declared.programs.Program.{Program}
 use Rattle.papers.specs.declared.checks.Papers.{Papers}
@@ -41,6 +42,15 @@ read-number s =
 pub check-number : (e : Envelope) (n u : ℕ) → checkEnvelope e ≡ bad n u → List·Memᴰ n envelopeNumbers
 unfolding checkEnvelope
 check-number e = read-number (envelopeBytes e)
+
+-- by any test of steps: never 5, 6 or 9
+pub program-by-number : (lawful : Step → Bool) (e : Envelope) (s : List ℕ) (n u : ℕ) → programBy lawful e s ≡ bad n u
+    → List·Memᴰ n (endsInside ∷ wrongMark ∷ wrongVersion ∷ beyondLimit ∷ leftOver ∷ notLegal ∷ [])
+program-by-number lawful e s =
+    program-number (λ n. List·Memᴰ n (endsInside ∷ wrongMark ∷ wrongVersion ∷ beyondLimit ∷ leftOver ∷ notLegal ∷ [])) (search List·Memᴰ·head)
+    (search (List·Memᴰ·head, List·Memᴰ·tail) depth 12) (search (List·Memᴰ·head, List·Memᴰ·tail) depth 12)
+    (search (List·Memᴰ·head, List·Memᴰ·tail) depth 12) (search (List·Memᴰ·head, List·Memᴰ·tail) depth 12)
+    (search (List·Memᴰ·head, List·Memᴰ·tail) depth 12) lawful e s
 
 against-number : (e : Envelope) (s : List ℕ) (n u : ℕ) → programAgainst e s ≡ bad n u → List·Memᴰ n papersNumbers
 against-number e s =

@@ -36,7 +36,7 @@ use Rattle.answerer.proofs.DeliveredLaws.{sentOf}
 use Rattle.demands.specs.Link.{Crew, Allowed, State, Bears, openedAt, start, Event, Possible, withTaken, lentStore, after}
 use Rattle.demands.specs.Link.Event.{makesValues, makesRows, comes}
 use Rattle.demands.specs.DemandThree.{LowerMade, Lower}
-use Rattle.demands.specs.DemandThree.LowerMade.{values, rows}
+use Rattle.demands.specs.DemandThree.Made.{values, rows}
 use Rattle.demands.proofs.SoundLaws.{SoundAt, Sound, Change, changes, received, taken-here, taken-at, rows-any}
 use Rattle.demands.proofs.SoundLaws.Change.{refused, reduces, arrives}
 use Rattle.demands.proofs.StartLaws.{opened-end, made-cases, own-made}

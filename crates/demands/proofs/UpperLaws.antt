@@ -37,7 +37,7 @@ use Rattle.ends.proofs.MessageLaws.{step-below}
 use Rattle.demands.specs.Link.{Crew, Allowed, State, Bears, start, Event, Possible, withTaken, lentStore, after}
 use Rattle.demands.specs.Link.Event.{makesValues, makesRows, comes}
 use Rattle.demands.specs.DemandThree.{runAfter, UpperMade, Upper}
-use Rattle.demands.specs.DemandThree.UpperMade.{values, rows}
+use Rattle.demands.specs.DemandThree.Made.{values, rows}
 use Rattle.station.proofs.MakingLaws.{with-values, with-rows}
 use Rattle.demands.proofs.TakenLaws.{values-by, rows-by}
 use Rattle.demands.proofs.RunLaws.{place-own, place-mono, run-none, run-step, run-still}

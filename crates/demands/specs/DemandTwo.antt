@@ -7,41 +7,10 @@
 -- tables, or that apply the first step and skip the rest": run-folds and step say which rows are kept, and Upper and
 -- Answers of DemandThree that no other is sent or held. "An invented cost or benefit": estimate, and PlanKept for the plan.
 -- proofs/Excluded.antt has the first three as laws.
-use Prim.Native.Nat.{ℕ, _+_, _≤_, _<_}
-use mathlib.Core.Path.{_≡_}
-use mathlib.Core.Bool.{true}
-use mathlib.Core.List.{List, map, List·Memᴰ}
-use mathlib.Core.Logic.{_↔_}
-use lib.ListN.{length, take}
-use Rattle.ground.specs.Lists.{Every, filter, each, combinations, sum}
-use Rattle.ground.specs.Bytes.{Bytes}
-use Rattle.ground.specs.Outcome.Outcome.{good}
-use Rattle.ground.specs.declared.Verdict.the-variants.{Taken}
-use Rattle.contents.specs.Parts.{clausesOf, targetsOf}
-use Rattle.contents.specs.declared.envelope.Envelope.{Envelope}
-use Rattle.envelopes.specs.Envelope.{readEnvelope, checkEnvelope, envelopeBytes}
-use Rattle.envelopes.specs.Rules.{Within, tidy}
-use Rattle.envelopes.specs.Fits.{Fits}
-use Rattle.paths.specs.Paths.{column, PathBetween, edges}
-use Rattle.paths.specs.Steps.{isPlace, legal, legalSteps}
-use Rattle.paths.specs.Meaning.{Row, meetsAll, targetRow, tablesOf, answerRows, answerWords}
-use Rattle.paths.specs.declared.steps.Step.{Step}
-use Rattle.papers.specs.Programs.{stepsOf, readProgram, checkProgram, programBytes, Acceptable, tidyProgram}
-use Rattle.papers.specs.Fits.{ProgramFits}
-use Rattle.papers.specs.declared.programs.Program.{Program}
-use Rattle.estimates.specs.Profile.{localProfile}
-use Rattle.estimates.specs.Costs.{plainCosts, assemblyAt}
-use Rattle.estimates.specs.Kind.{afterAll}
-use Rattle.estimates.specs.Estimate.{kindOf, linesOf, costsIn, estimateOf}
-use Rattle.estimates.specs.declared.lines.Estimate.{Estimate}
-use Rattle.planner.specs.Plan.{planOf}
-use Rattle.planner.specs.Promise.{PlanKept}
-use Rattle.tables.specs.Offsets.{countIn, rowCount}
-use Rattle.tables.specs.Rows.{rowOf, wordOf, keptAt, answerKept}
-use Rattle.tables.specs.Shape.{shaped}
-use Rattle.semijoin.specs.Local.{passes, openedIn}
-use Rattle.semijoin.specs.Run.{stepped, steppedAll, runMarks, runOutcome}
-use Rattle.answerer.specs.Answer.{answerOutcome}
+use Rattle.demands.specs.Words.{ℕ, _+_, _≤_, _<_, _≡_, true, List, map, List·Memᴰ, _↔_, length, take, Every, filter, each, combinations, sum, Bytes, good, Taken, clausesOf, targetsOf, Envelope, Within, tidy, Fits}
+use Rattle.demands.specs.Words.{readEnvelope, checkEnvelope, envelopeBytes, column, PathBetween, edges, isPlace, legal, legalSteps, Row, meetsAll, targetRow, tablesOf, answerRows, answerWords, Step}
+use Rattle.demands.specs.Words.{stepsOf, readProgram, checkProgram, programBytes, Acceptable, tidyProgram, ProgramFits, Program, localProfile, plainCosts, assemblyAt, profileAfter, kindOf, linesOf, costsIn}
+use Rattle.demands.specs.Words.{estimateOf, Estimate, planOf, PlanKept, countIn, rowCount, answerKept, shaped, passes, openedIn, stepped, steppedAll, runMarks, runOutcome, rowOf, wordOf, keptAt, answerOutcome}
 
 -- "R<A=B]S: R and S different, R.A and S.B on a path": along clauses, either way, from column to column or constant
 pub record OnPath (e : Envelope) (s : Step) : Type 0 where
@@ -54,7 +23,7 @@ pub record OnPath (e : Envelope) (s : Step) : Type 0 where
 pub record EstimateKept (e : Envelope) (p : Program) (x : Estimate) : Type 0 where
   pub taken : x .verdict ≡ Taken
   pub lines : take (x .count) (x .lines) ≡ linesOf plainCosts e (localProfile e) (stepsOf p)
-  pub assembly : x .assembly ≡ assemblyAt plainCosts e (afterAll (kindOf plainCosts e) (localProfile e) (stepsOf p)) (p .site)
+  pub assembly : x .assembly ≡ assemblyAt plainCosts e (profileAfter (kindOf plainCosts e) (localProfile e) (stepsOf p)) (p .site)
   pub total : x .total ≡ sum (costsIn (take (x .count) (x .lines))) + x .assembly
 
 pub record DemandTwo : Type 0 where

@@ -3,32 +3,8 @@
 -- them, the link losing, repeating, delaying or reordering messages but never altering or inventing them, and no message of
 -- any other run .. bearing this run's number." A crew, what can happen to it, and what stands afterwards, by the calls' own
 -- definitions.
-use Prim.Native.Nat.{ℕ, _≤_}
-use mathlib.Core.Path.{_≡_}
-use mathlib.Core.Bool.{true}
-use mathlib.Core.List.{List, [], _∷_, _++_, List·Memᴰ}
-use mathlib.Core.Logic.{_⊎_}
-use lib.ListN.{length, take}
-use lib.Dec.{eqb}
-use Rattle.ground.specs.Tests.{pick}
-use Rattle.ground.specs.Outcome.{Outcome}
-use Rattle.ground.specs.Outcome.Outcome.{good, bad}
-use Rattle.contents.specs.Sites.{isAt}
-use Rattle.contents.specs.declared.envelope.Envelope.{Envelope}
-use Rattle.envelopes.specs.Fits.{Fits}
-use Rattle.papers.specs.Checks.{papersOf}
-use Rattle.papers.specs.declared.programs.Program.{Program}
-use Rattle.papers.specs.declared.checks.Papers.{Papers}
-use Rattle.tables.specs.Offsets.{rowCount}
-use Rattle.tables.specs.Shape.{shaped}
-use Rattle.tables.specs.Rows.{SameRows}
-use Rattle.station.specs.Calls.{leaves}
-use Rattle.ends.specs.Ends.{Marked, noEnd}
-use Rattle.station.specs.Opening.{openOf, openedMarks}
-use Rattle.station.specs.Making.{makeValuesOf, makeRowsOf}
-use Rattle.station.specs.Receiving.{Held, receiveOf}
-
--- ---- a crew
+use Rattle.demands.specs.Words.{ℕ, _≤_, _≡_, true, List, [], _∷_, _++_, List·Memᴰ, _⊎_, length, take, eqb, pick, Outcome, good, bad, isAt, Envelope, Fits, papersOf}
+use Rattle.demands.specs.Words.{Program, Papers, rowCount, shaped, SameRows, leaves, Marked, noEnd, openOf, openedMarks, makeValuesOf, makeRowsOf, Held, receiveOf}
 
 -- the papers that every end is opened with, and the same as they read back; the run's number; the tables of all stations
 -- together; and by site the tables there and the marks lent for opening
@@ -41,8 +17,8 @@ pub record Crew : Type 0 where
   pub tables : ℕ → List ℕ
   pub lent : ℕ → List ℕ
 
--- what demand 3 asks of it: the envelope's numbers are within the width of their fields, the program is accepted, the tables are within the sizes and of the envelope's shape, at each site
--- the rows of a relation there are its rows, and there is a mark for every row
+-- what demand 3 asks of it: the envelope's numbers are within the width of their fields, the program is accepted, the tables are
+-- within the sizes and of the envelope's shape, a relation's rows at its site are its rows, and there is a mark for every row
 pub record Allowed (c : Crew) : Type 0 where
   pub fits : Fits (c .envelope)
   pub accepted : (u : ℕ) × (papersOf (c .envelope) (c .program) ≡ good (c .papers) u)
@@ -51,8 +27,7 @@ pub record Allowed (c : Crew) : Type 0 where
   pub parts : (site r : ℕ) → isAt (c .papers .envelope) site r ≡ true → SameRows (c .papers .envelope) r (c .tables site) (c .whole)
   pub marks : (site : ℕ) → site ≤ 7 → rowCount (c .papers .envelope) (c .tables site) ≤ length (c .lent site)
 
--- ---- its state: each site's end, marks and store, and every message made so far
-
+-- its state: each site's end, marks and store, and every message made so far
 pub record State : Type 0 where
   pub at : ℕ → Held
   pub made : List (List ℕ)
@@ -63,11 +38,7 @@ openingAt c site = openOf (c .envelope) (c .program) site (c .run) (c .tables si
 
 unfoldable pub openedAt : Crew → ℕ → Held
 openedAt c site =
-    record {
-      end = leaves (λ (x : Marked). x .end) noEnd (openingAt c site);
-      marks = openedMarks (c .lent site) (openingAt c site);
-      store = [];
-    }
+    let o = openingAt c site in record { end = leaves (λ (x : Marked). x .end) noEnd o; marks = openedMarks (c .lent site) o; store = [] }
 
 abbrev pub start : Crew → State
 start c = record { at = openedAt c; made = [] }

@@ -1,69 +1,44 @@
 -- Something happens: the run in which every message made is delivered, in program order. Each step's value message is made where
 -- its right relation is and comes to where its left relation is; then each relation's row message is made where it is
 -- and comes to the assembly site. So no station that refuses everything keeps demand 3.
-use Prim.Native.Nat.{ℕ, _≤_, _<_}
-use mathlib.Core.Path.{_≡_}
-use mathlib.Core.Bool.{true}
-use mathlib.Core.List.{List, [], _∷_, _++_}
-use lib.ListN.{getD, replicate}
-use Rattle.ground.specs.Lists.{below}
-use Rattle.ground.specs.Outcome.Outcome.{good}
-use Rattle.contents.specs.Parts.{relationCount}
-use Rattle.contents.specs.Sites.{siteOf}
-use Rattle.ends.specs.Reducing.{stepCount, stepOf}
-use Rattle.ends.specs.Ends.{hasArrived}
-use Rattle.station.specs.Making.{makeValuesOf, makeRowsOf}
-use Rattle.station.specs.Receiving.{Held, receiveOf}
+use Rattle.demands.specs.Words.{ℕ, _≤_, _<_, _≡_, true, List, [], _∷_, _++_, getD, replicate, below, Outcome, good, relationCount, siteOf, stepCount, stepOf, hasArrived, makeValuesOf, makeRowsOf, receiveOf}
 use Rattle.demands.specs.Link.{Crew, Allowed, State, start, Event, after, afterAll, Follows, lentStore}
 use Rattle.demands.specs.Link.Event.{makesValues, makesRows, comes}
 
--- ---- the run in order, with so much room lent each time
-
--- the message made last
-abbrev pub latest : State → List ℕ
-latest s = getD (s .made) 0 []
-
+-- with so much room lent each time: a step's values are sent and come, a relation's rows are sent and come; what comes is the
+-- message made last
 abbrev pub sendsStep : Crew → ℕ → ℕ → Event
 sendsStep c room n = makesValues (siteOf (c .papers .envelope) (stepOf (c .papers .program) n .right .relation)) n room
 
 abbrev pub bringsStep : Crew → ℕ → State → ℕ → Event
-bringsStep c room s n = comes (siteOf (c .papers .envelope) (stepOf (c .papers .program) n .left .relation)) (latest s) (replicate room 0)
-
-unfoldable pub stepsInOrder : Crew → ℕ → State → List ℕ → List Event
-stepsInOrder c room s [] = []
-stepsInOrder c room s (n ∷ ns) =
-    let x = sendsStep c room n in
-    let y = bringsStep c room (after c s x) n in
-    x ∷ y ∷ stepsInOrder c room (after c (after c s x) y) ns
+bringsStep c room s n = comes (siteOf (c .papers .envelope) (stepOf (c .papers .program) n .left .relation)) (getD (s .made) 0 []) (replicate room 0)
 
 abbrev pub sendsRows : Crew → ℕ → ℕ → Event
 sendsRows c room r = makesRows (siteOf (c .papers .envelope) r) r room
 
-abbrev pub bringsRows : Crew → ℕ → State → Event
-bringsRows c room s = comes (c .papers .program .site) (latest s) (replicate room 0)
+abbrev pub bringsRows : Crew → ℕ → State → ℕ → Event
+bringsRows c room s r = comes (c .papers .program .site) (getD (s .made) 0 []) (replicate room 0)
 
-unfoldable pub rowsInOrder : Crew → ℕ → State → List ℕ → List Event
-rowsInOrder c room s [] = []
-rowsInOrder c room s (r ∷ rs) =
-    let x = sendsRows c room r in
-    let y = bringsRows c room (after c s x) in
-    x ∷ y ∷ rowsInOrder c room (after c (after c s x) y) rs
+-- for each number in turn the one and then the other
+unfoldable pub inTurn : Crew → (ℕ → Event) → (State → ℕ → Event) → State → List ℕ → List Event
+inTurn c sends brings s [] = []
+inTurn c sends brings s (n ∷ ns) =
+    let mid = after c s (sends n) in
+    sends n ∷ brings mid n ∷ inTurn c sends brings (after c mid (brings mid n)) ns
 
 unfoldable pub inOrder : Crew → ℕ → List Event
 inOrder c room =
-    let steps = stepsInOrder c room (start c) (below (stepCount (c .papers .program))) in
-    steps ++ rowsInOrder c room (afterAll c (start c) steps) (below (relationCount (c .papers .envelope)))
+    let steps = inTurn c (sendsStep c room) (bringsStep c room) (start c) (below (stepCount (c .papers .program))) in
+    steps ++ inTurn c (sendsRows c room) (bringsRows c room) (afterAll c (start c) steps) (below (relationCount (c .papers .envelope)))
 
--- ---- what is promised of it
+-- the call of an event is taken; of each event of a list
+abbrev pub Goes : {A : Type 0} → Outcome A → Type 0
+Goes {A} o = (v : A) × (u : ℕ) × (o ≡ good v u)
 
--- the call of an event is taken
 abbrev pub IsTaken : Crew → State → Event → Type 0
-IsTaken c s (makesValues site n room) =
-    (m : List ℕ) × (u : ℕ) × (makeValuesOf (s .at site .end) (c .tables site) (s .at site .marks) n room ≡ good m u)
-IsTaken c s (makesRows site r room) =
-    (m : List ℕ) × (u : ℕ) × (makeRowsOf (s .at site .end) (c .tables site) (s .at site .marks) r room ≡ good m u)
-IsTaken c s (comes site m behind) =
-    (h : Held) × (u : ℕ) × (receiveOf (s .at site .end) (c .tables site) (s .at site .marks) (lentStore (s .at site) behind) m ≡ good h u)
+IsTaken c s (makesValues site n room) = Goes (makeValuesOf (s .at site .end) (c .tables site) (s .at site .marks) n room)
+IsTaken c s (makesRows site r room) = Goes (makeRowsOf (s .at site .end) (c .tables site) (s .at site .marks) r room)
+IsTaken c s (comes site m behind) = Goes (receiveOf (s .at site .end) (c .tables site) (s .at site .marks) (lentStore (s .at site) behind) m)
 
 abbrev pub AllTaken : Crew → State → List Event → Type 0
 AllTaken c s [] = Unit {0}
