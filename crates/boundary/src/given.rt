@@ -96,7 +96,7 @@ pub extern "C" fn legestran_read_envelope(envelope: &[u8]) -> u64
 pub extern "C" fn legestran_read_program(envelope: &[u8], program: &[u8]) -> u64
     ensures { λ r. ⌜ r ≡ verdictWord (verdictOf (papersIn (now (envelope .entry)) (now (program .entry)))) ⌝ }
 {
-    let read = read_papers(envelope, program);
-    let verdict = read.verdict;
-    crate::answers::of_verdict(verdict)
+    let papers = read_papers(envelope, program);
+    let found = papers.verdict;
+    crate::answers::of_verdict(found)
 }

@@ -97,8 +97,8 @@ pub extern "C" fn legestran_open(
             let papers = read.papers;
             let own = papers.envelope;
             let steps = papers.program;
-            let found = open_given(own, steps, site, run, tables, marks, state);
-            crate::answers::of_verdict(found)
+            let opened = open_given(own, steps, site, run, tables, marks, state);
+            crate::answers::of_verdict(opened)
         }
     }
 }
@@ -122,8 +122,8 @@ pub extern "C" fn legestran_make_values(
         Verdict::Refused { number, position } => crate::answers::answer_of(number, position),
         Verdict::Taken => {
             let end = read.end;
-            let made = station::making::make_values(end, tables, marks, step, message);
-            crate::answers::of_made(made)
+            let values = station::making::make_values(end, tables, marks, step, message);
+            crate::answers::of_made(values)
         }
     }
 }
@@ -147,8 +147,8 @@ pub extern "C" fn legestran_make_rows(
         Verdict::Refused { number, position } => crate::answers::answer_of(number, position),
         Verdict::Taken => {
             let end = read.end;
-            let made = station::making::make_rows(end, tables, marks, relation, message);
-            crate::answers::of_made(made)
+            let rows = station::making::make_rows(end, tables, marks, relation, message);
+            crate::answers::of_made(rows)
         }
     }
 }
@@ -202,8 +202,8 @@ pub extern "C" fn legestran_receive(
         Verdict::Refused { number, position } => crate::answers::answer_of(number, position),
         Verdict::Taken => {
             let end = read.end;
-            let found = receive_given(end, state, tables, marks, store, message);
-            crate::answers::of_verdict(found)
+            let received = receive_given(end, state, tables, marks, store, message);
+            crate::answers::of_verdict(received)
         }
     }
 }

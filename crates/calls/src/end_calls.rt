@@ -2,8 +2,45 @@
 // nothing was written.
 use crate::input;
 use crate::output;
+ghost use Prim.Native.Nat.{_≤_};
+ghost use lib.ListN.{length};
 
-pub fn open(
+// How many elements each slice of an end has, where the script is sound so far.
+pub(crate) struct EndCounts {
+    pub(crate) sound: bool,
+    pub(crate) envelope: usize,
+    pub(crate) program: usize,
+    pub(crate) state: usize,
+    pub(crate) tables: usize,
+    pub(crate) marks: usize,
+}
+
+// What every call on an end that has its tables begins with.
+fn next_end(
+    envelope: &mut [u8],
+    program: &mut [u8],
+    state: &mut [u32],
+    tables: &mut [u32],
+    marks: &mut [u8],
+) -> EndCounts
+    ensures { λ r. ⌜ (r .envelope ≤ length (now (envelope .exit))) × (r .program ≤ length (now (program .exit))) × (r .state ≤ length (now (state .exit))) × (r .tables ≤ length (now (tables .exit))) × (r .marks ≤ length (now (marks .exit))) ⌝ }
+{
+    let e = input::next_bytes(true, envelope);
+    let p = input::next_bytes(e.sound, program);
+    let s = input::next_words(p.sound, state);
+    let t = input::next_words(s.sound, tables);
+    let m = input::next_bytes(t.sound, marks);
+    EndCounts {
+        sound: m.sound,
+        envelope: e.count,
+        program: p.count,
+        state: s.count,
+        tables: t.count,
+        marks: m.count,
+    }
+}
+
+pub(crate) fn open(
     envelope: &mut [u8],
     program: &mut [u8],
     tables: &mut [u32],
@@ -40,7 +77,66 @@ pub fn open(
     true
 }
 
-pub fn make_values(
+// A row message or a value message: the number is that of the relation, or of the step.
+fn make_message(
+    rows: bool,
+    envelope: &[u8],
+    program: &[u8],
+    state: &[u32],
+    tables: &[u32],
+    marks: &[u8],
+    number: u32,
+    message: &mut [u32],
+) -> u64 {
+    if rows {
+        return boundary::stations::legestran_make_rows(
+            envelope,
+            program,
+            state,
+            tables,
+            marks,
+            number,
+            message,
+        );
+    }
+    boundary::stations::legestran_make_values(
+        envelope,
+        program,
+        state,
+        tables,
+        marks,
+        number,
+        message,
+    )
+}
+
+// The call and its outcome.
+fn put_made(
+    rows: bool,
+    envelope: &[u8],
+    program: &[u8],
+    state: &[u32],
+    tables: &[u32],
+    marks: &[u8],
+    number: u32,
+    message: &mut [u32],
+) {
+    let answer = make_message(
+        rows,
+        envelope,
+        program,
+        state,
+        tables,
+        marks,
+        number,
+        message,
+    );
+    output::put_answer(answer);
+    output::put_words(message);
+}
+
+pub(crate) fn make(
+    rows: bool,
     envelope: &mut [u8],
     program: &mut [u8],
     state: &mut [u32],
@@ -48,75 +144,57 @@ pub fn make_values(
     marks: &mut [u8],
     message: &mut [u32],
 ) -> bool {
-    let e = input::next_bytes(true, envelope);
-    let p = input::next_bytes(e.sound, program);
-    let s = input::next_words(p.sound, state);
-    let t = input::next_words(s.sound, tables);
-    let m = input::next_bytes(t.sound, marks);
-    let step = input::next_number(m.sound);
-    let o = input::next_words(step.sound, message);
-    if !o.sound {
+    let end = next_end(envelope, program, state, tables, marks);
+    let number = input::next_number(end.sound);
+    let m = input::next_words(number.sound, message);
+    if !m.sound {
         return false;
     }
-    let n = e.count;
-    let k = p.count;
-    let length = s.count;
-    let words = t.count;
-    let rows = m.count;
-    let room = o.count;
-    let answer = boundary::stations::legestran_make_values(
+    let n = end.envelope;
+    let k = end.program;
+    let length = end.state;
+    let words = end.tables;
+    let kept = end.marks;
+    let room = m.count;
+    put_made(
+        rows,
         &envelope[..n],
         &program[..k],
         &state[..length],
         &tables[..words],
-        &marks[..rows],
-        step.value,
+        &marks[..kept],
+        number.value,
         &mut message[..room],
     );
-    output::put_answer(answer);
-    output::put_words(&message[..room]);
     true
 }
 
-pub fn make_rows(
-    envelope: &mut [u8],
-    program: &mut [u8],
+// The call and its outcome.
+fn put_received(
+    envelope: &[u8],
+    program: &[u8],
     state: &mut [u32],
-    tables: &mut [u32],
+    tables: &[u32],
     marks: &mut [u8],
-    message: &mut [u32],
-) -> bool {
-    let e = input::next_bytes(true, envelope);
-    let p = input::next_bytes(e.sound, program);
-    let s = input::next_words(p.sound, state);
-    let t = input::next_words(s.sound, tables);
-    let m = input::next_bytes(t.sound, marks);
-    let relation = input::next_number(m.sound);
-    let o = input::next_words(relation.sound, message);
-    if !o.sound {
-        return false;
-    }
-    let n = e.count;
-    let k = p.count;
-    let length = s.count;
-    let words = t.count;
-    let rows = m.count;
-    let room = o.count;
-    let answer = boundary::stations::legestran_make_rows(
-        &envelope[..n],
-        &program[..k],
-        &state[..length],
-        &tables[..words],
-        &marks[..rows],
-        relation.value,
-        &mut message[..room],
+    store: &mut [u32],
+    message: &[u32],
+) {
+    let answer = boundary::stations::legestran_receive(
+        envelope,
+        program,
+        state,
+        tables,
+        marks,
+        store,
+        message,
     );
     output::put_answer(answer);
-    output::put_words(&message[..room]);
-    true
+    output::put_words(state);
+    output::put_bytes(marks);
+    output::put_words(store);
 }
 
-pub fn receive(
+pub(crate) fn receive(
     envelope: &mut [u8],
     program: &mut [u8],
     state: &mut [u32],
@@ -125,24 +203,20 @@ pub fn receive(
     store: &mut [u32],
     message: &mut [u32],
 ) -> bool {
-    let e = input::next_bytes(true, envelope);
-    let p = input::next_bytes(e.sound, program);
-    let s = input::next_words(p.sound, state);
-    let t = input::next_words(s.sound, tables);
-    let m = input::next_bytes(t.sound, marks);
-    let h = input::next_words(m.sound, store);
-    let o = input::next_words(h.sound, message);
-    if !o.sound {
+    let end = next_end(envelope, program, state, tables, marks);
+    let h = input::next_words(end.sound, store);
+    let m = input::next_words(h.sound, message);
+    if !m.sound {
         return false;
     }
-    let n = e.count;
-    let k = p.count;
-    let length = s.count;
-    let words = t.count;
-    let rows = m.count;
+    let n = end.envelope;
+    let k = end.program;
+    let length = end.state;
+    let words = end.tables;
+    let rows = end.marks;
     let held = h.count;
-    let sent = o.count;
-    let answer = boundary::stations::legestran_receive(
+    let sent = m.count;
+    put_received(
         &envelope[..n],
         &program[..k],
         &mut state[..length],
@@ -151,14 +225,10 @@ pub fn receive(
         &mut store[..held],
         &message[..sent],
     );
-    output::put_answer(answer);
-    output::put_words(&state[..length]);
-    output::put_bytes(&marks[..rows]);
-    output::put_words(&store[..held]);
     true
 }
 
-pub fn answer_at_end(
+pub(crate) fn answer_at_end(
     envelope: &mut [u8],
     program: &mut [u8],
     state: &mut [u32],

@@ -9,22 +9,22 @@ ghost use lib.ListN.{length};
 const MOST: usize = 40960;
 
 // A word; the input ends before it; or within it.
-pub enum WordRead {
+pub(crate) enum WordRead {
     Word(u32),
     End,
     Cut,
 }
 
 // A number, where the script is sound so far.
-pub struct Number {
-    pub sound: bool,
-    pub value: u32,
+pub(crate) struct Number {
+    pub(crate) sound: bool,
+    pub(crate) value: u32,
 }
 
 // How many elements a slice has, where the script is sound so far.
-pub struct Count {
-    pub sound: bool,
-    pub count: usize,
+pub(crate) struct Count {
+    pub(crate) sound: bool,
+    pub(crate) count: usize,
 }
 
 // The word that stands at a place among bytes.
@@ -35,7 +35,7 @@ fn word_at(bytes: &[u8], at: usize) -> u32 {
     }
 }
 
-pub fn next_word() -> WordRead {
+pub(crate) fn next_word() -> WordRead {
     let mut bytes = [0u8; 4];
     let n = io::read_full(0, &mut bytes);
     if n == 0 {
@@ -48,7 +48,7 @@ pub fn next_word() -> WordRead {
 }
 
 // A number inside a call: there the input must not end.
-pub fn next_number(sound: bool) -> Number {
+pub(crate) fn next_number(sound: bool) -> Number {
     if !sound {
         return Number {
             sound: false,
@@ -99,10 +99,11 @@ fn next_length(sound: bool, room: usize) -> Count
     }
 }
 
-fn least(a: usize, b: usize) -> usize
-    ensures { λ r. ⌜ r ≡ min a b ⌝ }
+// How many of the elements that are left go through one chunk.
+pub(crate) fn part_of(left: usize) -> usize
+    ensures { λ r. ⌜ r ≡ min left 1024 ⌝ }
 {
-    if a < b { a } else { b }
+    if left < 1024 { left } else { 1024 }
 }
 
 // So many words of input to the front of a chunk; false where the input ends before.
@@ -166,7 +167,7 @@ fn take_bytes(chunk: &[u8], part: usize, buffer: &mut [u8], from: usize) -> bool
 }
 
 // A slice of words.
-pub fn next_words(sound: bool, buffer: &mut [u32]) -> Count
+pub(crate) fn next_words(sound: bool, buffer: &mut [u32]) -> Count
     ensures { λ r. ⌜ (r .count ≤ length (now (buffer .exit))) × (length (now (buffer .exit)) ≡ length (now (buffer .entry))) ⌝ }
 {
     let whole = next_length(sound, buffer.len());
@@ -174,7 +175,7 @@ pub fn next_words(sound: bool, buffer: &mut [u32]) -> Count
     let mut space = io::buffer();
     let mut done: usize = 0;
     while done < n {
-        let part = least(n - done, 1024);
+        let part = part_of(n - done);
         if !read_part(&mut space, part) {
             return damaged();
         }
@@ -185,7 +186,7 @@ pub fn next_words(sound: bool, buffer: &mut [u32]) -> Count
 }
 
 // A slice of bytes, one word each.
-pub fn next_bytes(sound: bool, buffer: &mut [u8]) -> Count
+pub(crate) fn next_bytes(sound: bool, buffer: &mut [u8]) -> Count
     ensures { λ r. ⌜ (r .count ≤ length (now (buffer .exit))) × (length (now (buffer .exit)) ≡ length (now (buffer .entry))) ⌝ }
 {
     let whole = next_length(sound, buffer.len());
@@ -193,7 +194,7 @@ pub fn next_bytes(sound: bool, buffer: &mut [u8]) -> Count
     let mut space = io::buffer();
     let mut done: usize = 0;
     while done < n {
-        let part = least(n - done, 1024);
+        let part = part_of(n - done);
         if !read_part(&mut space, part) {
             return damaged();
         }

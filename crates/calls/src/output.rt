@@ -1,10 +1,10 @@
 // Outcomes as they go out: the answer as two words, and slices with their lengths.
 use fields::numbers::Width;
 ghost use mathlib.Core.Path.{_≡_};
-ghost use Prim.Native.Nat.{_+_, _≤_, min};
+ghost use Prim.Native.Nat.{_+_, _≤_};
 ghost use lib.ListN.{length};
 
-pub fn say_damaged() {
+pub(crate) fn say_damaged() {
     io::write_all(2, b"calls: the script is damaged\n");
 }
 
@@ -15,15 +15,9 @@ fn put_word(word: u32) {
 }
 
 // The number and the value of an answer.
-pub fn put_answer(answer: u64) {
+pub(crate) fn put_answer(answer: u64) {
     put_word((answer / 4294967296) as u32);
     put_word((answer % 4294967296) as u32);
-}
-
-fn least(a: usize, b: usize) -> usize
-    ensures { λ r. ⌜ r ≡ min a b ⌝ }
-{
-    if a < b { a } else { b }
 }
 
 // A word among the bytes of a chunk, where it goes that far.
@@ -61,12 +55,12 @@ fn wide(byte: u8) -> u32 {
 }
 
 // A slice of words with its length.
-pub fn put_words(words: &[u32]) {
+pub(crate) fn put_words(words: &[u32]) {
     put_length(words.len());
     let mut space = io::buffer();
     let mut done: usize = 0;
     while done < words.len() {
-        let part = least(words.len() - done, 1024);
+        let part = crate::input::part_of(words.len() - done);
         fill_words(words, done, part, &mut space);
         io::write_all(1, &space[..4 * part]);
         done += part;
@@ -74,12 +68,12 @@ pub fn put_words(words: &[u32]) {
 }
 
 // A slice of bytes with its length, one word each.
-pub fn put_bytes(bytes: &[u8]) {
+pub(crate) fn put_bytes(bytes: &[u8]) {
     put_length(bytes.len());
     let mut space = io::buffer();
     let mut done: usize = 0;
     while done < bytes.len() {
-        let part = least(bytes.len() - done, 1024);
+        let part = crate::input::part_of(bytes.len() - done);
         fill_bytes(bytes, done, part, &mut space);
         io::write_all(1, &space[..4 * part]);
         done += part;

@@ -3,7 +3,7 @@
 use crate::input;
 use crate::output;
 
-pub fn read_envelope(envelope: &mut [u8]) -> bool {
+pub(crate) fn read_envelope(envelope: &mut [u8]) -> bool {
     let e = input::next_bytes(true, envelope);
     if !e.sound {
         return false;
@@ -14,7 +14,7 @@ pub fn read_envelope(envelope: &mut [u8]) -> bool {
     true
 }
 
-pub fn read_program(envelope: &mut [u8], program: &mut [u8]) -> bool {
+pub(crate) fn read_program(envelope: &mut [u8], program: &mut [u8]) -> bool {
     let e = input::next_bytes(true, envelope);
     let p = input::next_bytes(e.sound, program);
     if !p.sound {
@@ -27,7 +27,7 @@ pub fn read_program(envelope: &mut [u8], program: &mut [u8]) -> bool {
     true
 }
 
-pub fn plan(envelope: &mut [u8], program: &mut [u8]) -> bool {
+pub(crate) fn plan(envelope: &mut [u8], program: &mut [u8]) -> bool {
     let e = input::next_bytes(true, envelope);
     let p = input::next_bytes(e.sound, program);
     if !p.sound {
@@ -41,7 +41,7 @@ pub fn plan(envelope: &mut [u8], program: &mut [u8]) -> bool {
     true
 }
 
-pub fn run_in_one_place(
+pub(crate) fn run_in_one_place(
     envelope: &mut [u8],
     program: &mut [u8],
     tables: &mut [u32],
@@ -69,7 +69,7 @@ pub fn run_in_one_place(
     true
 }
 
-pub fn answer(envelope: &mut [u8], tables: &mut [u32], out: &mut [u32]) -> bool {
+pub(crate) fn answer(envelope: &mut [u8], tables: &mut [u32], out: &mut [u32]) -> bool {
     let e = input::next_bytes(true, envelope);
     let t = input::next_words(e.sound, tables);
     let o = input::next_words(t.sound, out);
@@ -89,7 +89,7 @@ pub fn answer(envelope: &mut [u8], tables: &mut [u32], out: &mut [u32]) -> bool 
     true
 }
 
-pub fn estimate(envelope: &mut [u8], program: &mut [u8], out: &mut [u32]) -> bool {
+pub(crate) fn estimate(envelope: &mut [u8], program: &mut [u8], out: &mut [u32]) -> bool {
     let e = input::next_bytes(true, envelope);
     let p = input::next_bytes(e.sound, program);
     let o = input::next_words(p.sound, out);

@@ -8,7 +8,7 @@ use Rattle.calls.proofs.input.next_words.Tie as tie
 use Rattle.calls.proofs.input.next_words.Reads as reads
 use Rattle.calls.proofs.input.next_words.Lts as lts
 use Rattle.calls.proofs.input.damaged.Reads as damaged-reads
-use Rattle.calls.proofs.input.least.Reads as least-reads
+use Rattle.calls.proofs.input.part_of.Reads as part-of-reads
 use Rattle.calls.proofs.input.next_length.Reads as next-length-reads
 use Rattle.calls.proofs.input.take_words.Reads as take-words-reads
 use Rattle.io.proofs.buffer.Reads as buffer-reads
@@ -32,12 +32,12 @@ loop-holds : tie.Need-loop-holds Inv-loop μ-loop
 loop-holds c = (omega arith, omega arith, omega arith, omega arith, omega arith)
 
 -- src/input.rt:164:26
-sub-least : tie.Need-sub-least Inv-loop μ-loop
-sub-least c = omega arith
+sub-part-of : tie.Need-sub-part-of Inv-loop μ-loop
+sub-part-of c = omega arith
 
 -- src/input.rt:164:13
-least-requires : tie.Need-least-requires Inv-loop μ-loop
-least-requires c κs = search needs
+part-of-requires : tie.Need-part-of-requires Inv-loop μ-loop
+part-of-requires c κs = search needs
 
 -- src/input.rt:165:36
 slice-aggregate-read-part : tie.Need-slice-aggregate-read-part Inv-loop μ-loop
@@ -96,8 +96,8 @@ next-words-spec =
     next-length-requires
     buffer-requires
     loop-holds
-    sub-least
-    least-requires
+    sub-part-of
+    part-of-requires
     slice-aggregate-read-part
     read-part-requires
     damaged-requires

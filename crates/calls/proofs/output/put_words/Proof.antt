@@ -9,7 +9,7 @@ use Rattle.calls.proofs.output.put_words.Tie as tie
 use Rattle.calls.proofs.output.put_words.Reads as reads
 use Rattle.calls.proofs.output.put_words.Lts as lts
 use Rattle.calls.proofs.output.fill_words.Reads as fill-words-reads
-use Rattle.calls.proofs.output.least.Reads as least-reads
+use Rattle.calls.proofs.input.part_of.Reads as part-of-reads
 use Rattle.calls.proofs.output.put_length.Reads as put-length-reads
 use Rattle.io.proofs.buffer.Reads as buffer-reads
 use Rattle.io.proofs.write_all.Reads as write-all-reads
@@ -33,12 +33,12 @@ loop-holds : tie.Need-loop-holds Inv-loop μ-loop
 loop-holds c = (omega arith, omega arith)
 
 -- src/output.rt:69:26
-sub-least : tie.Need-sub-least Inv-loop μ-loop
-sub-least c = omega arith
+sub-part-of : tie.Need-sub-part-of Inv-loop μ-loop
+sub-part-of c = omega arith
 
 -- src/output.rt:69:13
-least-requires : tie.Need-least-requires Inv-loop μ-loop
-least-requires c κs = search needs
+part-of-requires : tie.Need-part-of-requires Inv-loop μ-loop
+part-of-requires c κs = search needs
 
 -- src/output.rt:70:39
 slice-aggregate-fill-words : tie.Need-slice-aggregate-fill-words Inv-loop μ-loop
@@ -89,8 +89,8 @@ put-words-spec =
     put-length-requires
     buffer-requires
     loop-holds
-    sub-least
-    least-requires
+    sub-part-of
+    part-of-requires
     slice-aggregate-fill-words
     fill-words-requires
     mul-space
