@@ -26,3 +26,4 @@ pub mod UniquePapers
 pub mod UniqueStations
 pub mod Excluded
 pub mod Figures
+pub mod TwoStations
