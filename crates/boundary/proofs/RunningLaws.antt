@@ -1,5 +1,5 @@
 -- The returns of the calls on tables of every relation.
-use mathlib.Core.Path.{_≡_, refl, ap, _∙_}
+use mathlib.Core.Path.{_≡_, refl, sym, ap, _∙_}
 use mathlib.Core.List.{List}
 use Prim.Native.Nat.{ℕ}
 use Rattle.ground.specs.Outcome.{Outcome, verdictOf}
@@ -14,6 +14,7 @@ use Rattle.papers.specs.declared.checks.Papers.{Papers}
 use Rattle.papers.specs.declared.checks.PapersRead.{PapersRead}
 use Rattle.papers.proofs.CheckLaws.{papers-taken, papers-refused}
 use Rattle.semijoin.specs.Marks.{marksAfter}
+use Rattle.semijoin.proofs.CallLaws.{call-promise}
 use Rattle.semijoin.specs.Run.{runOutcome}
 use Rattle.answerer.specs.Answer.{answerOutcome, answeredOf, answeredIn}
 use Rattle.answerer.specs.declared.answer.Answered.{Answered}
@@ -39,9 +40,10 @@ module _ (e p words marks : List ℕ) (c : PapersRead) (g : c ≡ shownPapers (p
   running q = runOutcome (q .envelope) (q .program) words marks
 
   pub run-refused : (m u r : ℕ) → c .verdict ≡ Refused m u → r ≡ answerWord m u → Runs r marks (runFrom e p words marks)
-  unfolding runFrom verdictOf verdictWord marksAfter
+  unfolding runFrom verdictOf verdictWord
   run-refused m u r t k =
-      refused-says (papersIn e p) (λ q _. running q) (Runs r marks) m u (papers-refused (papersIn e p) c m u g t) (k, refl)
+      refused-says (papersIn e p) (λ q _. running q) (Runs r marks) m u (papers-refused (papersIn e p) c m u g t)
+      (k, sym (call-promise .marks-kept marks m u))
 
   pub run-taken : c .verdict ≡ Taken → (v : Verdict) (after : List ℕ) (r : ℕ)
       → (v ≡ verdictOf (running (c .papers))) × (after ≡ marksAfter marks (running (c .papers))) → r ≡ verdictWord v
