@@ -2,6 +2,8 @@
 -- sound by their own papers.
 pub mod CountingLaws
 pub mod ReducingLaws
+pub mod SearchingLaws
+pub mod Lends
 pub mod MessageLaws
 pub mod EndLaws
 pub mod MessageCodeLaws

@@ -1,4 +1,4 @@
--- The laws of the order of a relation's steps: what the loops that count its steps hold and answer, and what an answer says.
+-- The laws of the order of a relation's steps: which there are below a number, and what an answer says.
 use mathlib.Core.Path.{_≡_, refl, ap, sym, _∙_}
 use mathlib.Core.Bool.{Bool, true, false}
 use mathlib.Core.List.{List}
@@ -22,57 +22,13 @@ use Rattle.papers.specs.declared.programs.Program.{Program}
 use Rattle.ends.specs.Reducing.{stepCount, stepOf, reduces, reducing, placeOf, isMissing, firstMissing, missingIn, missingOf}
 use Rattle.ends.specs.declared.reducing.Missing.{Missing}
 use Rattle.ends.specs.declared.reducing.Missing.the-variants.{First, None}
-use Rattle.ends.proofs.CountingLaws.{Counting, counting-yes, counting-no, counting-done, counting-found, counting-less}
 
 module _ (steps : List Step) (count r n end : ℕ) (e : end ≡ min n (min 156 count)) where
-  all-of : length steps ≡ 156 → reducing (take count steps) r n ≡ filter (reduces (take count steps) r) (below end)
+  pub all-of : length steps ≡ 156 → reducing (take count steps) r n ≡ filter (reduces (take count steps) r) (below end)
   unfolding reducing
   all-of l =
       let s : min n (length (take count steps)) ≡ end = omega (arith, length-take count steps) in
       ap (λ k. filter (reduces (take count steps) r) (below k)) s
-
-  module _ (i place : ℕ) (g : Counting (reduces (take count steps) r) end i place) where
-    pub place-done : length steps ≡ 156 → end ≤ i → place ≡ length (reducing (take count steps) r n)
-    place-done l h = counting-done _ _ _ _ g h ∙ ap (λ (l : List ℕ). length l) (sym (all-of l))
-
-    module _ (h : i < end) where
-      abbrev relation : ℕ
-      relation = getD steps i noStep .left .relation
-
-      in-use : getD (take count steps) i noStep ≡ getD steps i noStep
-      in-use = getD-take count steps i noStep (omega arith)
-
-      yes : relation ≡ r → reduces (take count steps) r i ≡ true
-      unfolding reduces
-      yes t = rw in-use (eq-eqb _ _ t)
-
-      no : (relation ≡ r → ⊥) → reduces (take count steps) r i ≡ false
-      unfolding reduces
-      no t = rw in-use (ne-eqb _ _ t)
-
-      pub place-yes : relation ≡ r → (after : ℕ) → after ≡ place + 1 → Counting (reduces (take count steps) r) end (i + 1) after
-      place-yes t after s = rw s (counting-yes _ _ _ _ g h (yes t))
-
-      pub place-no : (relation ≡ r → ⊥) → (after : ℕ) → after ≡ place → Counting (reduces (take count steps) r) end (i + 1) after
-      place-no t after s = rw s (counting-no _ _ _ _ g h (no t))
-
-      -- the first that is missing: as many are counted as are applied
-      pub missing-found : length steps ≡ 156 → relation ≡ r → (applied : ℕ) → place ≡ applied
-          → First i ≡ missingIn (reducing (take count steps) r n) applied
-      unfolding missingIn
-      missing-found l t applied s =
-          let k : applied < length (reducing (take count steps) r n) =
-          omega (arith, ap (λ (l : List ℕ). length l) (all-of l), counting-less _ _ _ _ g h (yes t), s) in
-          let f : getD (reducing (take count steps) r n) applied 0 ≡ i =
-          rw (all-of l, ← s) (counting-found _ _ _ _ g h (yes t)) in
-          sym (rw (lt-ltb _ _ k, f))
-
-    pub missing-none : length steps ≡ 156 → end ≤ i → (applied : ℕ) → place ≤ applied
-        → None ≡ missingIn (reducing (take count steps) r n) applied
-    unfolding missingIn
-    missing-none l h applied s =
-        let k : length (reducing (take count steps) r n) ≤ applied = omega (arith, place-done l h, s) in
-        sym (rw (le-ltb _ _ k))
 
 -- a step by its number, and how many there are
 module _ (steps : List Step) (count k : ℕ) (e : k ≡ min 156 count) where
@@ -105,14 +61,6 @@ module _ (p : Program) (n : ℕ) where
       )
 
 module _ (p : Program) (r applied n : ℕ) where
-  pub place-of : (k : ℕ) → k ≡ length (reducing (take (p .count) (p .steps)) r n) → k ≡ placeOf p r n
-  unfolding placeOf stepsOf
-  place-of k e = e
-
-  pub missing-of : (x : Missing) → x ≡ missingIn (reducing (take (p .count) (p .steps)) r n) applied → x ≡ missingOf p r applied n
-  unfolding stepsOf
-  missing-of x e = e
-
   -- what an answer says
   module _ (x : Missing) (e : x ≡ missingOf p r applied n) where
     pub missing-first : (k : ℕ) → x ≡ First k → (isMissing p r applied n ≡ true) × (firstMissing p r applied n ≡ k)

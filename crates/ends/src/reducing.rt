@@ -5,12 +5,23 @@ ghost use mathlib.Core.Path.{_≡_};
 ghost use Prim.Native.Nat.{min};
 ghost use lib.ListN.{length, getD, take};
 ghost use Rattle.papers.specs.Programs.{noStep};
-ghost use Rattle.ends.specs.Reducing.{stepCount, stepOf, reducing, placeOf, missingIn, missingOf};
+ghost use Rattle.ends.specs.Reducing.{stepCount, stepOf, placeOf, missingOf};
+ghost use Rattle.ends.specs.Searching.{seenOf, soughtFrom, Found};
 
 // The number of the first step that is missing.
 pub enum Missing {
     First(usize),
     None,
+}
+
+// A search through the steps for the next one of a relation: how many of its steps are still passed over, the number that a step must
+// be below to count, and the number of the step that was found.
+pub struct Search {
+    pub relation: u8,
+    pub skip: u32,
+    pub end: usize,
+    pub found: bool,
+    pub at: usize,
 }
 
 fn step_at(steps: [Step; 156], count: u8, n: usize) -> Step
@@ -58,55 +69,80 @@ fn steps_before(count: u8, n: usize) -> usize
     if n < end { n } else { end }
 }
 
-fn place_in(steps: [Step; 156], count: u8, relation: u8, n: usize) -> u32
-    ensures { λ r. ⌜ r ≡ length (reducing (take count steps) relation n) ⌝ }
+// One step is looked at: the search is over, or the step does not count, or it is the one, or it is passed over.
+fn seen(search: Search, step: Step, at: usize) -> Search
+    ensures { λ r. ⌜ r ≡ seenOf search step at ⌝ }
 {
-    let end = steps_before(count, n);
-    let mut place: u32 = 0;
-    let mut i: usize = 0;
-    while i < end {
-        let step = steps[i];
-        let left = step.left;
-        if left.relation == relation {
-            place += 1;
-        }
-        i += 1;
+    if search.found {
+        return search;
     }
-    place
+    if search.end <= at {
+        return search;
+    }
+    let left = step.left;
+    if left.relation != search.relation {
+        return search;
+    }
+    let mut after = search;
+    if search.skip == 0 {
+        after.found = true;
+        after.at = at;
+        return after;
+    }
+    after.skip = search.skip - 1;
+    after
 }
 
-// How many of the first n steps reduce a relation.
+// The steps of the accepted program, lent as a slice, are looked at in program order. The proof is by hand.
+fn sought(steps: &[Step], search: Search) -> Search
+    ensures { λ r. ⌜ r ≡ soughtFrom (now (steps .entry)) 0 search ⌝ }
+{
+    let mut reached = search;
+    let mut i: usize = 0;
+    while i < steps.len() {
+        reached = seen(reached, steps[i], i);
+        i = i + 1;
+    }
+    reached
+}
+
+// The program lends its steps for one search. The proof is by hand; whoever calls this is covered.
+fn sought_in(program: Program, search: Search) -> Search
+    ensures { λ r. ⌜ (r ≡ soughtFrom (program .steps) 0 search) × (length (program .steps) ≡ 156) ⌝ }
+{
+    let steps = program.steps;
+    sought(&steps, search)
+}
+
+// The next step of a relation behind so many of its steps, of those below n.
+fn next_step(program: Program, relation: u8, skip: u32, n: usize) -> Search
+    ensures { λ r. ⌜ Found program relation skip n r ⌝ }
+{
+    let search = Search {
+        relation,
+        skip,
+        end: steps_before(program.count, n),
+        found: false,
+        at: 0,
+    };
+    sought_in(program, search)
+}
+
+// How many of the first n steps reduce a relation: of 156 steps to pass over, those that were passed over.
 pub fn place_of(program: Program, relation: u8, n: usize) -> u32
     ensures { λ r. ⌜ r ≡ placeOf program relation n ⌝ }
 {
-    let steps = program.steps;
-    place_in(steps, program.count, relation, n)
-}
-
-fn missing_in(steps: [Step; 156], count: u8, relation: u8, applied: u32, n: usize) -> Missing
-    ensures { λ r. ⌜ r ≡ missingIn (reducing (take count steps) relation n) applied ⌝ }
-{
-    let end = steps_before(count, n);
-    let mut place: u32 = 0;
-    let mut i: usize = 0;
-    while i < end {
-        let step = steps[i];
-        let left = step.left;
-        if left.relation == relation {
-            if place == applied {
-                return Missing::First(i);
-            }
-            place += 1;
-        }
-        i += 1;
-    }
-    Missing::None
+    let search = next_step(program, relation, 156, n);
+    156 - search.skip
 }
 
 // With so many steps of a relation applied, the first missing one of those below n.
 pub fn missing_of(program: Program, relation: u8, applied: u32, n: usize) -> Missing
     ensures { λ r. ⌜ r ≡ missingOf program relation applied n ⌝ }
 {
-    let steps = program.steps;
-    missing_in(steps, program.count, relation, applied, n)
+    let search = next_step(program, relation, applied, n);
+    if search.found {
+        return Missing::First(search.at);
+    }
+    Missing::None
 }

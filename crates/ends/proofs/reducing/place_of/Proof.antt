@@ -1,18 +1,20 @@
-use Rattle.ends.proofs.ReducingLaws.{place-of}
+use Rattle.ends.proofs.SearchingLaws.{place-passed}
 use borrow.Author.Needs.{needs}
+use native.Mathlib.Omega.{arith}
 use Rattle.ends.proofs.reducing.place_of.Statement.{statement}
 use Rattle.ends.proofs.reducing.place_of.Tie as tie
 use Rattle.ends.proofs.reducing.place_of.Reads as reads
 use Rattle.ends.proofs.reducing.place_of.Lts as lts
-use Rattle.ends.proofs.reducing.place_in.Reads as place-in-reads
+use Rattle.ends.proofs.reducing.next_step.Reads as next-step-reads
 
--- src/reducing.rt:45:5
-place-in-requires : tie.Need-place-in-requires
-place-in-requires c κs = search needs
+next-step-requires : tie.Need-next-step-requires
+next-step-requires c κs = search needs
 
--- src/reducing.rt:41:1
+sub-result : tie.Need-sub-result
+sub-result c = omega (arith, place-passed _ _ _ _ (c .before .next-step .ensures))
+
 returns : tie.Need-returns
-returns c = search (place-of, needs)
+returns c = omega (arith, place-passed _ _ _ _ (c .before .next-step .ensures))
 
 pub place-of-spec : {M : Type 1} → statement M
-place-of-spec = tie.close (tie.spec place-in-requires returns)
+place-of-spec = tie.close (tie.spec next-step-requires sub-result returns)
