@@ -8,8 +8,7 @@ use lib.ListN.{length, getD, take}
 use lib.Seq.{sets, take-all}
 use lib.Dec.{eqb}
 use borrow.Author.Tests.{lt-ltb, le-ltb}
-use Rattle.ground.specs.Searching.{someFrom}
-use Rattle.ground.proofs.SearchingLaws.{Looking, some-more, some-found, some-none, any-numbers}
+use Rattle.ground.proofs.SearchingLaws.{someFrom, Looking, some-more, some-found, some-none, any-numbers}
 use Rattle.ground.proofs.PuttingLaws.{Copying, copying-done}
 use Rattle.contents.specs.Parts.{relationCount}
 use Rattle.papers.specs.declared.checks.Papers.{Papers}

@@ -8,7 +8,7 @@ use borrow.Author.Tests.{lt-ltb, le-ltb}
 use lib.ListN.{length, getD, take, set, replicate, length-take, List·getD-eq-default}
 use lib.Seq.{getD-take, take-all}
 use Rattle.ground.specs.Lists.{any, empty, filter, below}
-use Rattle.ground.specs.Searching.{firstFrom, someFrom}
+use Rattle.ground.specs.Searching.{firstFrom}
 use Rattle.ground.proofs.SearchingLaws.{Looking, first-more, first-found, first-none}
 use Rattle.ground.proofs.CollectingLaws.{Collecting, Picking, picking-below, picking-count, number-yes, number-no, number-done}
 use Rattle.entries.specs.Places.{place, samePlace}

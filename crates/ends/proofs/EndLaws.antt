@@ -10,10 +10,9 @@ use Rattle.ground.specs.Lists.{filter, below}
 use Rattle.ground.specs.Outcome.{Outcome, next, nextOf}
 use Rattle.ground.specs.Outcome.Outcome.{good, bad}
 use Rattle.ground.specs.Refusing.{test, judged, judgement}
-use Rattle.ground.specs.Searching.{someFrom}
 use Rattle.ground.specs.declared.Verdict.{Verdict}
 use Rattle.ground.specs.declared.Verdict.the-variants.{Taken, Refused}
-use Rattle.ground.proofs.SearchingLaws.{Looking, some-more, some-found, some-none, any-numbers}
+use Rattle.ground.proofs.SearchingLaws.{someFrom, Looking, some-more, some-found, some-none, any-numbers}
 use Rattle.ground.proofs.OutcomeLaws.{next-good}
 use Rattle.ground.proofs.RefusingLaws.{judged-good, judge-refused, judge-taken}
 use Rattle.ground.proofs.EveryLaws.{every-getD}

@@ -1,22 +1,16 @@
 -- Combinations of one element from each list: what they consist of, and that to filter or map the lists is to filter or
 -- map the combinations.
-use mathlib.Core.Path.{_≡_, refl, sym, ap, ap₂, _∙_, fun-ext}
+use mathlib.Core.Path.{_≡_, refl, sym, ap, ap₂, _∙_}
 use mathlib.Core.Bool.{Bool, true, false}
 use mathlib.Core.List.{List, [], _∷_, _++_, map, List·Memᴰ, List·Memᴰ·head, Memᴰ·cast, List·Memᴰ·eq-of-singleton, map-append}
 use Prim.Native.Nat.{ℕ, zero, suc, _<_, zero-le, suc-le-suc}
 use native.Mathlib.Nat.{le-of-suc-le-suc, not-suc-le-zero}
 use native.Mathlib.Omega.{arith}
-use lib.ListN.{length, getD, set}
-use Rattle.ground.specs.Lists.{consIf, filter, all, changedAt, each, combinations}
-use Rattle.ground.proofs.ListLaws.{filter-append, filter-map, filter-each, filter-none, filter-every, each-from, each-mem, map-from, map-mem}
+use lib.ListN.{length, getD}
+use Rattle.ground.specs.Lists.{consIf, filter, all, each, combinations}
+use Rattle.ground.proofs.ListLaws.{filter-append, filter-map, filter-none, each-from, each-mem, map-from, map-mem}
 
 module _ {A : Type 0} where
-  -- a list changed at a place is the list with that element stored there
-  pub changed-set : (i : ℕ) (f : A → A) (l : List A) (d : A) → changedAt i f l ≡ set l i (f (getD l i d))
-  changed-set i f [] d = refl
-  changed-set zero f (x ∷ l) d = refl
-  changed-set (suc i) f (x ∷ l) d = ap (λ (r : List A). x ∷ r) (changed-set i f l d)
-
   from : (t : List A) (ts : List (List A)) {c : List A} → List·Memᴰ c (combinations (t ∷ ts))
       → (x : A) × (k : List A) × List·Memᴰ x t × List·Memᴰ k (combinations ts) × (c ≡ x ∷ k)
   from t ts m =
@@ -46,29 +40,6 @@ module _ {A : Type 0} where
   combinations-mem d (t ∷ ts) (x ∷ c) e h =
       each-mem (λ (y : A). map (λ (k : List A). y ∷ k) (combinations ts)) (h 0 (suc-le-suc zero-le))
       (map-mem (λ (k : List A). x ∷ k) (combinations-mem d ts c (omega arith) (λ i l. h (suc i) (suc-le-suc l))))
-
-  front : (cs : List (List A)) (d : A) (p : A → Bool) (t : List A)
-      → each (λ (x : A). map (λ (c : List A). x ∷ c) cs) (filter p t)
-      ≡ filter (λ (c : List A). p (getD c 0 d)) (each (λ (x : A). map (λ (c : List A). x ∷ c) cs) t)
-  front cs d p [] = refl
-  front cs d p (x ∷ t) = go (p x) refl (front cs d p t)
-    where
-      f : A → List (List A)
-      f y = map (λ (c : List A). y ∷ c) cs
-
-      go : (b : Bool) → p x ≡ b → each f (filter p t) ≡ filter (λ (c : List A). p (getD c 0 d)) (each f t)
-          → each f (consIf b x (filter p t)) ≡ filter (λ (c : List A). p (getD c 0 d)) (f x ++ each f t)
-      go true e ih = rw (filter-append, filter-map, e, filter-every, ih)
-      go false e ih = rw (filter-append, filter-map, e, filter-none, ih)
-
-  -- to filter one list is to filter the combinations by their element of it
-  pub combinations-filter : (d : A) (ts : List (List A)) (i : ℕ) (p : A → Bool) → i < length ts
-      → combinations (changedAt i (filter p) ts) ≡ filter (λ (c : List A). p (getD c i d)) (combinations ts)
-  combinations-filter d [] i p h = absurd (not-suc-le-zero h)
-  combinations-filter d (t ∷ ts) zero p h = front (combinations ts) d p t
-  combinations-filter d (t ∷ ts) (suc i) p h =
-      rw (combinations-filter d ts i p (le-of-suc-le-suc h), filter-each)
-      (ap (λ (g : A → List (List A)). each g t) (fun-ext λ x. sym (filter-map _ _ (combinations ts))))
 
   -- to filter all lists by one test is to filter the combinations by it
   pub combinations-filters : (p : A → Bool) (ts : List (List A)) → combinations (map (filter p) ts) ≡ filter (all p) (combinations ts)

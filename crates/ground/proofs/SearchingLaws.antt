@@ -11,10 +11,15 @@ use lib.Dec.{ltb}
 use lib.ListN.{length, getD, take}
 use Rattle.ground.specs.Tests.{pick}
 use Rattle.ground.specs.Lists.{any, all, Every, numbersFrom}
-use Rattle.ground.specs.Searching.{firstFrom, someFrom}
+use Rattle.ground.specs.Searching.{firstFrom}
 use Rattle.ground.proofs.CountLaws.{left-suc, left-none, split}
 use Rattle.ground.proofs.EveryLaws.{every-of}
 use Rattle.ground.proofs.NumbersLaws.{numbers-from}
+
+-- the test holds at one of n numbers from i on: what a loop that looks for one finds
+unfoldable pub someFrom : (ℕ → Bool) → ℕ → ℕ → Bool
+someFrom f i zero = false
+someFrom f i (suc n) = pick (f i) true (someFrom f (i + 1) n)
 
 -- of n numbers i are looked at: what is left to look through gives what the whole gives
 pub record Looking {A : Type 0} (from : (ℕ → Bool) → ℕ → ℕ → A) (f : ℕ → Bool) (n i : ℕ) : Type 0 where

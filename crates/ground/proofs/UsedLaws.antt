@@ -9,9 +9,8 @@ use native.Mathlib.Omega.{arith}
 use lib.ListN.{length, getD, take, length-take, List·getD-eq-default}
 use lib.Seq.{getD-take, take-all}
 use Rattle.ground.specs.Lists.{any}
-use Rattle.ground.specs.Searching.{someFrom}
 use Rattle.ground.proofs.CountLaws.{split}
-use Rattle.ground.proofs.SearchingLaws.{Looking, some-more, some-found, some-none, any-some}
+use Rattle.ground.proofs.SearchingLaws.{someFrom, Looking, some-more, some-found, some-none, any-some}
 
 -- an element behind those in use reads as the default
 pub used-outside : {A : Type 0} (l : List A) (n i : ℕ) (d : A) → n ≤ i → getD (take n l) i d ≡ d

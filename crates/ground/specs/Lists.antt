@@ -27,12 +27,6 @@ module _ {A : Type 0} where
   empty [] = true
   empty (x ∷ l) = false
 
-  -- the list with f applied at place i
-  abbrev pub changedAt : ℕ → (A → A) → List A → List A
-  changedAt i f [] = []
-  changedAt zero f (x ∷ l) = f x ∷ l
-  changedAt (suc i) f (x ∷ l) = x ∷ changedAt i f l
-
   -- what holds of every element, as a statement
   abbrev pub Every : (A → Type 0) → List A → Type 0
   Every P [] = Unit {0}

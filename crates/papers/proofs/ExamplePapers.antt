@@ -2,8 +2,9 @@
 -- paper, on both sides of each limit; and structs, checked as their bytes would be. Examples states that all of it holds.
 use mathlib.Core.List.{List, [], _∷_, _++_, map}
 use Prim.Native.Nat.{ℕ}
-use lib.ListN.{take, replicate}
-use Rattle.ground.specs.Lists.{changedAt, each, below}
+use lib.ListN.{take, replicate, set}
+use Rattle.ground.specs.Figures.{Figure, figure}
+use Rattle.ground.specs.Lists.{each, below}
 use Rattle.ground.specs.Outcome.{Outcome}
 use Rattle.ground.specs.Outcome.Outcome.{good, bad}
 use Rattle.entries.specs.Relations.{relationWith}
@@ -43,7 +44,7 @@ refused n p = n ∷ p ∷ []
 
 -- a paper with one byte replaced
 abbrev pub put : ℕ → ℕ → List ℕ → List ℕ
-put i v s = changedAt i (λ _. v) s
+put i v s = set s i v
 
 -- ---- the papers
 

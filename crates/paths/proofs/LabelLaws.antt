@@ -11,9 +11,9 @@ use lib.ListN.{getD, length, length-map}
 use lib.Seq.{getD-take}
 use borrow.Author.Tests.{eqb-true, eqb-false, eq-eqb, ne-eqb, ltb-true, lt-ltb}
 use Rattle.ground.specs.Tests.{pick}
-use Rattle.ground.specs.Searching.{firstFrom, someFrom}
+use Rattle.ground.specs.Searching.{firstFrom}
 use Rattle.ground.proofs.CountLaws.{split}
-use Rattle.ground.proofs.SearchingLaws.{some-of, some-first, first-holds}
+use Rattle.ground.proofs.SearchingLaws.{someFrom, some-of, some-first, first-holds}
 use Rattle.ground.proofs.TestLaws.{and-left, and-right, and-both, same-test}
 use Rattle.ground.proofs.EveryLaws.{every-at}
 use Rattle.ground.proofs.ListLaws.{mem-getD, getD-map}

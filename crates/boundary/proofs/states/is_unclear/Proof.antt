@@ -1,7 +1,6 @@
 use Prim.Native.Nat.{_-_}
 use borrow.Author.Needs.{needs}
-use Rattle.ground.specs.Searching.{someFrom}
-use Rattle.ground.proofs.SearchingLaws.{Looking, looking-start}
+use Rattle.ground.proofs.SearchingLaws.{someFrom, Looking, looking-start}
 use Rattle.boundary.specs.States.{unclearAt}
 use Rattle.boundary.proofs.StateLaws.{unclear-passed, unclear-found, unclear-none}
 use native.Mathlib.Omega.{arith}

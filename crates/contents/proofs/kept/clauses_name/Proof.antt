@@ -1,7 +1,6 @@
 use Rattle.entries.specs.Clauses.{noClause}
 use Prim.Native.Nat.{_-_}
-use Rattle.ground.specs.Searching.{someFrom}
-use Rattle.ground.proofs.SearchingLaws.{Looking, looking-start}
+use Rattle.ground.proofs.SearchingLaws.{someFrom, Looking, looking-start}
 use Rattle.ground.proofs.UsedLaws.{tested, used-found, used-passed, used-none}
 use Rattle.contents.proofs.KeptLaws.{clauseNames}
 use borrow.Author.Needs.{needs}

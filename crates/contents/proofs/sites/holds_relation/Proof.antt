@@ -1,6 +1,5 @@
 use Prim.Native.Nat.{_-_}
-use Rattle.ground.specs.Searching.{someFrom}
-use Rattle.ground.proofs.SearchingLaws.{Looking, looking-start}
+use Rattle.ground.proofs.SearchingLaws.{someFrom, Looking, looking-start}
 use Rattle.contents.specs.Sites.{isAt}
 use Rattle.contents.proofs.SiteLaws.{site-found, site-passed, site-none}
 use borrow.Author.Needs.{needs}

@@ -1,6 +1,5 @@
 use Prim.Native.Nat.{_-_}
-use Rattle.ground.specs.Searching.{someFrom}
-use Rattle.ground.proofs.SearchingLaws.{Looking, looking-start}
+use Rattle.ground.proofs.SearchingLaws.{someFrom, Looking, looking-start}
 use Rattle.ends.specs.Ends.{overAt}
 use Rattle.ends.proofs.EndLaws.{over-passed, over-found, over-none}
 use borrow.Author.Needs.{needs}

@@ -1,6 +1,5 @@
 use Rattle.ground.proofs.UsedLaws.{tested, used-found, used-passed, used-none}
-use Rattle.ground.proofs.SearchingLaws.{Looking, looking-start}
-use Rattle.ground.specs.Searching.{someFrom}
+use Rattle.ground.proofs.SearchingLaws.{someFrom, Looking, looking-start}
 use Prim.Native.Nat.{_-_}
 use mathlib.Core.List.{[]}
 use lib.ListN.{getD}
