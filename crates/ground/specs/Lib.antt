@@ -1,5 +1,6 @@
--- What every definition above is written with: tests, lists, outcomes of reading, numbers as bytes, rising lists, lists
--- in order, the first of greatest gain; and what a figure is.
+-- What every definition above is written with: tests, lists, outcomes of reading, numbers as bytes, tests one after the other
+-- of which the first that fails refuses, the first number at which a test holds, rising lists, lists in order, the first of
+-- greatest gain; and what a figure is.
 pub mod Tests
 pub mod Lists
 pub mod Outcome
