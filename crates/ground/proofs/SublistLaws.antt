@@ -16,9 +16,6 @@ use Rattle.ground.proofs.ListLaws.{filter-length}
 use Rattle.ground.proofs.EveryLaws.{every-at, every-of}
 use Rattle.ground.proofs.ChoiceLaws.{First}
 
-abbrev pub Apart : {A : Type 0} → A → A → Type 0
-Apart x y = x ≡ y → ⊥
-
 module _ {A : Type 0} where
   -- without an element a list is shorter
   pub fewer : (p : A → Bool) {x : A} (l : List A) → List·Memᴰ x l → p x ≡ false → length (filter p l) < length l

@@ -13,7 +13,7 @@ use lib.Dec.{ltb}
 use borrow.Author.Tests.{ltb-true, ltb-false, not-true}
 use Rattle.ground.specs.Tests.{pick}
 use Rattle.ground.specs.Lists.{Every}
-use Rattle.ground.specs.Order.{Ordered}
+use Rattle.ground.specs.Order.{Ordered, Apart, Once}
 use Rattle.ground.specs.Choice.{firstOfGreatest}
 use Rattle.ground.proofs.TestLaws.{not-holds}
 use Rattle.ground.proofs.ListLaws.{filter-mem, filter-from}
@@ -22,7 +22,7 @@ use Rattle.ground.proofs.OrderLaws.{ordered-filter}
 use Rattle.ground.proofs.ChoiceLaws.{First, Chosen, greatest-chosen}
 use Rattle.estimates.specs.Kind.{Kind, afterAll, total}
 use Rattle.planner.specs.Choice.{Handed, gain, without, greedy, cheaper, cheapest, fallback}
-use Rattle.ground.proofs.SublistLaws.{Apart, fewer, first-mem, first-before}
+use Rattle.ground.proofs.SublistLaws.{fewer, first-mem, first-before}
 
 -- ---- the greedy program
 
@@ -68,7 +68,7 @@ module _ {P S : Type 0} (k : Kind P S) where
         go (inr n) ih = filter-from _ unused (ih n) .0
 
     -- no step stands twice
-    pub greedy-once : (unused : List S) (p : P) (ss : List S) → Greedy unused p ss → Ordered Apart ss
+    pub greedy-once : (unused : List S) (p : P) (ss : List S) → Greedy unused p ss → Once ss
     greedy-once unused p [] g = tt
     greedy-once unused p (s ∷ ss) g = (
       every-of (Apart s) ss

@@ -12,7 +12,7 @@ use native.Mathlib.Omega.{arith}
 use lib.ListN.{length, getD, take}
 use borrow.Author.Tests.{lt-ltb, eq-eqb}
 use Rattle.ground.specs.Lists.{filter, Every, below, sum}
-use Rattle.ground.specs.Order.{Ordered}
+use Rattle.ground.specs.Order.{Apart, Once}
 use Rattle.ground.proofs.TestLaws.{and-both}
 use Rattle.ground.proofs.ListLaws.{any-of, filter-mem, filter-from}
 use Rattle.ground.proofs.EveryLaws.{every-of, every-getD}
@@ -36,7 +36,7 @@ use Rattle.planner.specs.Plan.{siteFor, greedySteps, dropsAt, afterDrops
 use Rattle.estimates.specs.declared.profiles.Profile.{Profile}
 use Rattle.estimates.specs.declared.costs.Costs.{Costs}
 use Rattle.estimates.specs.declared.lines.Line.{Line}
-use Rattle.ground.proofs.SublistLaws.{Apart, part-mem, part-length, part-ordered}
+use Rattle.ground.proofs.SublistLaws.{part-mem, part-length, part-ordered}
 use Rattle.planner.proofs.ChoiceLaws.{Greedy, greedy-run, greedy-from, greedy-once, greedy-few, CheapestOf, cheapest-is, fallback-is, fallback-total}
 use Rattle.estimates.proofs.EstimateLaws.{step-tells, estimated-lines, estimated-total}
 use Rattle.planner.proofs.DropLaws.{drops-part}
@@ -114,7 +114,7 @@ module _ (k : Costs) (e : Envelope) where
   plan-legal = part-legal (planned k e .steps) plan-part
 
   -- none twice
-  pub plan-once : Ordered Apart (planned k e .steps)
+  pub plan-once : Once (planned k e .steps)
   plan-once =
       part-ordered Apart plan-part
       (greedy-once (kindOf k e) step-tells (legalSteps e) (localProfile e) (greedySteps k e) plan-greedy)

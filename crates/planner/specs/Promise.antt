@@ -11,7 +11,7 @@ use Prim.Native.Nat.{ℕ, _+_, _≤_, _<_}
 use lib.ListN.{length, getD, take}
 use lib.Dec.{eqb}
 use Rattle.ground.specs.Lists.{Every, filter, below, sum}
-use Rattle.ground.specs.Order.{Ordered}
+use Rattle.ground.specs.Order.{Ordered, Once}
 use Rattle.ground.specs.declared.Verdict.the-variants.{Taken}
 use Rattle.contents.specs.Sites.{isAt, holds}
 use Rattle.contents.specs.declared.envelope.Envelope.{Envelope}
@@ -27,10 +27,6 @@ use Rattle.estimates.specs.declared.lines.Line.{Line}
 use Rattle.planner.specs.Choice.{Handed, gain, stepsAt}
 use Rattle.planner.specs.Plan.{siteFor, greedySteps, afterDrops, planned}
 use Rattle.planner.specs.declared.plans.Plan.{Plan}
-
--- no element stands twice
-abbrev pub Once : {A : Type 0} → List A → Type 0
-Once {A} l = Ordered (λ (x y : A). x ≡ y → ⊥) l
 
 -- number i costs more than number j, or the same and is earlier
 abbrev pub Dearer : List ℕ → ℕ → ℕ → Type 0
