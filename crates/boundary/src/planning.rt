@@ -30,7 +30,7 @@ ghost use Rattle.boundary.specs.Planning.{
 fn steps_in(lines: [Line; 156]) -> [Step; 156]
     ensures { λ r. ⌜ r ≡ stepsIn lines ⌝ }
 {
-    let mut steps = [estimates::lines::no_step(); 156];
+    let mut steps = [papers::programs::no_step(); 156];
     let mut i: usize = 0;
     while i < 156 {
         let line = lines[i];

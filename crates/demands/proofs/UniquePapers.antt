@@ -76,6 +76,9 @@ column-count-one κs a y z u v p q = (same p q, refl)
 pub read-place-one : Determined places.read_place.Kinds.ps places.read_place.Kinds.r places.read_place.Reads.Learnt
 read-place-one κs a y z u v p q = (same p q, refl)
 
+pub no-column-one : Determined relations.no_column.Kinds.ps relations.no_column.Kinds.r relations.no_column.Reads.Learnt
+no-column-one κs a y z u v p q = (same p q, refl)
+
 pub column-at-one : Determined relations.column_at.Kinds.ps relations.column_at.Kinds.r relations.column_at.Reads.Learnt
 column-at-one κs a y z u v p q = (same p q, refl)
 
@@ -153,6 +156,9 @@ refused-papers-one κs a y z u v p q = (same p q, refl)
 pub check-papers-one : Determined checks.check_papers.Kinds.ps checks.check_papers.Kinds.r checks.check_papers.Reads.Learnt
 check-papers-one κs a y z u v p q = (same p q, refl)
 
+pub no-step-one : Determined programs.no_step.Kinds.ps programs.no_step.Kinds.r programs.no_step.Reads.Learnt
+no-step-one κs a y z u v p q = (same p q, refl)
+
 pub no-program-one : Determined programs.no_program.Kinds.ps programs.no_program.Kinds.r programs.no_program.Reads.Learnt
 no-program-one κs a y z u v p q = (same p q, refl)
 
@@ -184,9 +190,6 @@ estimated-one κs a y z u v p q = (same p q, refl)
 
 pub estimate-one : Determined estimator.estimate.Kinds.ps estimator.estimate.Kinds.r estimator.estimate.Reads.Learnt
 estimate-one κs a y z u v p q = (same p q, refl)
-
-pub no-step-one : Determined lines.no_step.Kinds.ps lines.no_step.Kinds.r lines.no_step.Reads.Learnt
-no-step-one κs a y z u v p q = (same p q, refl)
 
 pub no-line-one : Determined lines.no_line.Kinds.ps lines.no_line.Kinds.r lines.no_line.Reads.Learnt
 no-line-one κs a y z u v p q = (same p q, refl)

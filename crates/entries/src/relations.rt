@@ -47,7 +47,8 @@ fn least(a: u32, b: u32) -> u32
     if a < b { a } else { b }
 }
 
-fn no_column() -> Column
+// The empty column: what stands in an array behind the last one, and past it.
+pub fn no_column() -> Column
     ensures { λ r. ⌜ r ≡ noColumn ⌝ }
 {
     Column {

@@ -8,22 +8,12 @@ ghost use lib.ListN.{getD};
 ghost use Rattle.entries.specs.Relations.{noColumn, pastRelation};
 ghost use Rattle.estimates.specs.Columns.{columnOf, domainSize, widthOf};
 
-fn no_column() -> Column
-    ensures { λ r. ⌜ r ≡ noColumn ⌝ }
-{
-    Column {
-        domain: 0,
-        width: 0,
-        distinct: 0,
-    }
-}
-
 fn column_in(relations: [Relation; 8], place: Place) -> Column
     ensures { λ r. ⌜ r ≡ getD (getD relations (place .relation) pastRelation .columns) (place .column) noColumn ⌝ }
 {
     let i = place.relation as usize;
     if 8 <= i {
-        return no_column();
+        return entries::relations::no_column();
     }
     let relation = relations[i];
     let columns = relation.columns;
@@ -37,7 +27,7 @@ pub(crate) fn column_of(envelope: Envelope, place: Place) -> Column
     if place.relation < envelope.relation_count {
         column_in(relations, place)
     } else {
-        no_column()
+        entries::relations::no_column()
     }
 }
 

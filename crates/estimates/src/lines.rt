@@ -21,22 +21,11 @@ pub struct Estimate {
     pub total: u64,
 }
 
-// What stands in an array behind the last step.
-pub fn no_step() -> Step
-    ensures { λ r. ⌜ r ≡ noStep ⌝ }
-{
-    let place = entries::places::no_place();
-    Step {
-        left: place,
-        right: place,
-    }
-}
-
 // What stands behind the last line.
 pub fn no_line() -> Line
     ensures { λ r. ⌜ r ≡ line noStep 0 0 ⌝ }
 {
-    let step = no_step();
+    let step = papers::programs::no_step();
     Line {
         step: step,
         benefit: 0,

@@ -46,7 +46,8 @@ pub struct ProgramRead {
     pub program: Program,
 }
 
-fn no_step() -> Step
+// What stands in an array behind the last step.
+pub fn no_step() -> Step
     ensures { λ r. ⌜ r ≡ noStep ⌝ }
 {
     let place = entries::places::no_place();

@@ -6,10 +6,8 @@ use mathlib.Core.List.{List, map, List·Memᴰ}
 use mathlib.Core.Logic.{inl, inr}
 use Prim.Native.Nat.{ℕ, _+_, _*_, _/_, _%_, _≤_, _<_}
 use native.Mathlib.Omega.{arith}
-use borrow.Author.Tests.{eq-eqb, ne-eqb}
 use lib.ListN.{length, getD, set, take, replicate, length-map}
 use lib.Seq.{length-take-le}
-use lib.Dec.{eqb}
 use Rattle.ground.specs.Lists.{filter, below}
 use Rattle.ground.proofs.CountLaws.{split}
 use Rattle.ground.proofs.ListLaws.{filter-mem, filter-from, filter-length, map-mem, getD-map}
@@ -38,23 +36,13 @@ use Rattle.ground.proofs.SiftingLaws.{Sifting, sifting-start, sifting-room, sif
 -- ---- the same step
 
 module _ (s t : Step) where
-  pub other-left-relation : (s .left .relation ≡ t .left .relation → ⊥) → false ≡ sameStep s t
-  unfolding sameStep samePlace
-  other-left-relation h = simp (ne-eqb _ _ h)
+  pub other-left : (b : Bool) → b ≡ samePlace (s .left) (t .left) → b ≡ false → false ≡ sameStep s t
+  unfolding sameStep
+  other-left b f h = simp (← f, h)
 
-  module _ (f : s .left .relation ≡ t .left .relation) where
-    pub other-left-column : (s .left .column ≡ t .left .column → ⊥) → false ≡ sameStep s t
-    unfolding sameStep samePlace
-    other-left-column h = simp (eq-eqb _ _ f, ne-eqb _ _ h)
-
-    module _ (g : s .left .column ≡ t .left .column) where
-      pub other-right-relation : (s .right .relation ≡ t .right .relation → ⊥) → false ≡ sameStep s t
-      unfolding sameStep samePlace
-      other-right-relation h = simp (eq-eqb _ _ f, eq-eqb _ _ g, ne-eqb _ _ h)
-
-      pub right-column : s .right .relation ≡ t .right .relation → eqb (s .right .column) (t .right .column) ≡ sameStep s t
-      unfolding sameStep samePlace
-      right-column h = simp (eq-eqb _ _ f, eq-eqb _ _ g, eq-eqb _ _ h)
+  pub same-left : (b c : Bool) → b ≡ samePlace (s .left) (t .left) → b ≡ true → c ≡ samePlace (s .right) (t .right) → c ≡ sameStep s t
+  unfolding sameStep
+  same-left b c f h g = g ∙ simp (← f, h)
 
 -- ---- the numbered steps
 

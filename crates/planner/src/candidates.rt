@@ -28,16 +28,11 @@ fn same_step(a: Step, b: Step) -> bool
     let right = a.right;
     let other_left = b.left;
     let other_right = b.right;
-    if left.relation != other_left.relation {
-        return false;
+    if entries::places::same_place(left, other_left) {
+        entries::places::same_place(right, other_right)
+    } else {
+        false
     }
-    if left.column != other_left.column {
-        return false;
-    }
-    if right.relation != other_right.relation {
-        return false;
-    }
-    right.column == other_right.column
 }
 
 // Column number k of the 64 that an envelope can have.
@@ -67,7 +62,7 @@ pub(crate) fn legal_steps(envelope: Envelope) -> Steps
     ensures { λ r. ⌜ r ≡ shownSteps (legalSteps envelope) ⌝ }
 {
     let labels = paths::labels::labels_of(envelope);
-    let mut all = [estimates::lines::no_step(); 156];
+    let mut all = [papers::programs::no_step(); 156];
     let mut count: u8 = 0;
     let mut k: usize = 0;
     while k < 4096 {
@@ -90,7 +85,7 @@ pub(crate) fn without(steps: [Step; 156], n: u8, used: Step) -> Steps
     requires { ⌜ n ≤ 156 ⌝ }
     ensures { λ r. ⌜ r ≡ shownSteps (filter (λ (t : Step). not (sameStep used t)) (take n steps)) ⌝ }
 {
-    let mut all = [estimates::lines::no_step(); 156];
+    let mut all = [papers::programs::no_step(); 156];
     let mut count: u8 = 0;
     let mut i: usize = 0;
     while i < n as usize {

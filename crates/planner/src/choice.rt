@@ -54,7 +54,7 @@ fn first_of_greatest(
     requires { ⌜ (n ≤ 156) × Bounded costs profile × ((i : ℕ) → i < n → Shrinks envelope profile (getD steps i noStep)) ⌝ }
     ensures { λ r. ⌜ r ≡ shownChoice (firstOfGreatest (gain (kindOf costs envelope) profile) (take n steps)) ⌝ }
 {
-    let mut best = estimates::lines::no_step();
+    let mut best = papers::programs::no_step();
     let mut most: u64 = 0;
     let mut i: usize = 0;
     while i < n as usize {
@@ -80,7 +80,7 @@ pub(crate) fn greedy_steps(costs: Costs, envelope: Envelope, local: Profile) -> 
 {
     let mut unused = crate::candidates::legal_steps(envelope);
     let mut now = local;
-    let mut all = [estimates::lines::no_step(); 156];
+    let mut all = [papers::programs::no_step(); 156];
     let mut count: u8 = 0;
     loop {
         let left = unused.all;

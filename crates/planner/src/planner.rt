@@ -43,7 +43,7 @@ fn planned(costs: Costs, envelope: Envelope, local: Profile, home: u8, alone: u6
     Program {
         site: home,
         count: 0,
-        steps: [estimates::lines::no_step(); 156],
+        steps: [papers::programs::no_step(); 156],
     }
 }
 

@@ -9,7 +9,7 @@ use Rattle.boundary.proofs.planning.steps_in.Statement.{statement}
 use Rattle.boundary.proofs.planning.steps_in.Tie as tie
 use Rattle.boundary.proofs.planning.steps_in.Reads as reads
 use Rattle.boundary.proofs.planning.steps_in.Lts as lts
-use Rattle.estimates.proofs.lines.no_step.Reads as no-step-reads
+use Rattle.papers.proofs.programs.no_step.Reads as no-step-reads
 
 abbrev Inv-loop : tie.InvT-loop
 Inv-loop lines steps₀ i₀ steps i = Copying (stepsIn lines) steps₀ 0 156 i i steps

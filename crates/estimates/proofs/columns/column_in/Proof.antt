@@ -6,7 +6,7 @@ use Rattle.estimates.proofs.columns.column_in.Tie as tie
 use Rattle.estimates.proofs.columns.column_in.Reads as reads
 use Rattle.estimates.proofs.columns.column_in.Lts as lts
 use Rattle.entries.proofs.relations.column_at.Reads as column-at-reads
-use Rattle.estimates.proofs.columns.no_column.Reads as no-column-reads
+use Rattle.entries.proofs.relations.no_column.Reads as no-column-reads
 
 -- src/profiles.rt:36:13
 cast-i : tie.Need-cast-i

@@ -5,7 +5,7 @@ use Rattle.estimates.proofs.columns.column_of.Tie as tie
 use Rattle.estimates.proofs.columns.column_of.Reads as reads
 use Rattle.estimates.proofs.columns.column_of.Lts as lts
 use Rattle.estimates.proofs.columns.column_in.Reads as column-in-reads
-use Rattle.estimates.proofs.columns.no_column.Reads as no-column-reads
+use Rattle.entries.proofs.relations.no_column.Reads as no-column-reads
 
 -- src/profiles.rt:50:9
 column-in-requires : tie.Need-column-in-requires

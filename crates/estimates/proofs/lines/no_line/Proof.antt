@@ -3,7 +3,7 @@ use Rattle.estimates.proofs.lines.no_line.Statement.{statement}
 use Rattle.estimates.proofs.lines.no_line.Tie as tie
 use Rattle.estimates.proofs.lines.no_line.Reads as reads
 use Rattle.estimates.proofs.lines.no_line.Lts as lts
-use Rattle.estimates.proofs.lines.no_step.Reads as no-step-reads
+use Rattle.papers.proofs.programs.no_step.Reads as no-step-reads
 
 -- src/estimator.rt:23:9
 no-step-requires : tie.Need-no-step-requires

@@ -7,7 +7,7 @@ use Rattle.planner.proofs.candidates.legal_steps.Statement.{statement}
 use Rattle.planner.proofs.candidates.legal_steps.Tie as tie
 use Rattle.planner.proofs.candidates.legal_steps.Reads as reads
 use Rattle.planner.proofs.candidates.legal_steps.Lts as lts
-use Rattle.estimates.proofs.lines.no_step.Reads as no-step-reads
+use Rattle.papers.proofs.programs.no_step.Reads as no-step-reads
 use Rattle.planner.proofs.candidates.step_at.Reads as step-at-reads
 use Rattle.paths.proofs.labels.labels_of.Reads as labels-of-reads
 use Rattle.paths.proofs.steps.legal_by.Reads as legal-by-reads

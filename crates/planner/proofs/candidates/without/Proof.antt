@@ -7,7 +7,7 @@ use Rattle.planner.proofs.candidates.without.Statement.{statement}
 use Rattle.planner.proofs.candidates.without.Tie as tie
 use Rattle.planner.proofs.candidates.without.Reads as reads
 use Rattle.planner.proofs.candidates.without.Lts as lts
-use Rattle.estimates.proofs.lines.no_step.Reads as no-step-reads
+use Rattle.papers.proofs.programs.no_step.Reads as no-step-reads
 use Rattle.planner.proofs.candidates.same_step.Reads as same-step-reads
 
 abbrev Inv-loop : tie.InvT-loop

@@ -11,7 +11,7 @@ use Rattle.planner.proofs.choice.first_of_greatest.Statement.{statement
 use Rattle.planner.proofs.choice.first_of_greatest.Tie as tie
 use Rattle.planner.proofs.choice.first_of_greatest.Reads as reads
 use Rattle.planner.proofs.choice.first_of_greatest.Lts as lts
-use Rattle.estimates.proofs.lines.no_step.Reads as no-step-reads
+use Rattle.papers.proofs.programs.no_step.Reads as no-step-reads
 use Rattle.planner.proofs.choice.gain.Reads as gain-reads
 
 abbrev Inv-loop : tie.InvT-loop

@@ -6,7 +6,7 @@ use Rattle.planner.proofs.choice.greedy_steps.Tie as tie
 use Rattle.planner.proofs.choice.greedy_steps.Reads as reads
 use Rattle.planner.proofs.choice.greedy_steps.Lts as lts
 use Rattle.planner.proofs.candidates.legal_steps.Reads as legal-steps-reads
-use Rattle.estimates.proofs.lines.no_step.Reads as no-step-reads
+use Rattle.papers.proofs.programs.no_step.Reads as no-step-reads
 use Rattle.planner.proofs.candidates.without.Reads as without-reads
 use Rattle.planner.proofs.choice.first_of_greatest.Reads as first-of-greatest-reads
 use Rattle.estimates.proofs.profiles.Profile.after_step.Reads as after-step-reads

@@ -4,7 +4,7 @@ use Rattle.planner.proofs.planner.planned.Statement.{statement}
 use Rattle.planner.proofs.planner.planned.Tie as tie
 use Rattle.planner.proofs.planner.planned.Reads as reads
 use Rattle.planner.proofs.planner.planned.Lts as lts
-use Rattle.estimates.proofs.lines.no_step.Reads as no-step-reads
+use Rattle.papers.proofs.programs.no_step.Reads as no-step-reads
 use Rattle.planner.proofs.planner.after_drops.Reads as after-drops-reads
 use Rattle.estimates.proofs.estimator.estimated.Reads as estimated-reads
 
