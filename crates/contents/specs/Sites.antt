@@ -1,4 +1,5 @@
--- Where relations are: "sites 0 to 7"; a site that holds a relation. No other place compares a relation's site.
+-- Where relations are: "sites 0 to 7"; a site that holds a relation. No other place compares a
+-- relation's site, but for the prices of estimates, which are 0 from a site to itself.
 use Prim.Native.Nat.{ℕ}
 use mathlib.Core.Bool.{Bool, _&&_}
 use lib.ListN.{getD}
@@ -8,7 +9,7 @@ use Rattle.entries.specs.Relations.{pastRelation}
 use Rattle.contents.specs.Parts.{relationsOf, relationCount}
 use Rattle.contents.specs.declared.envelope.Envelope.{Envelope}
 
--- the site of a relation
+-- the site of a relation; 0, which is a site's number too, where the envelope has no such relation
 unfoldable pub siteOf : Envelope → ℕ → ℕ
 siteOf e r = getD (relationsOf e) r pastRelation .site
 

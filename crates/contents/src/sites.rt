@@ -1,4 +1,5 @@
-// Where relations are: each is at one site. No other place compares a relation's site.
+// Where relations are: each is at one site. No other place compares a relation's site, but for the prices
+// of estimates, which are 0 from a site to itself.
 use crate::envelope::Envelope;
 use entries::relations::Relation;
 ghost use mathlib.Core.Path.{_≡_};

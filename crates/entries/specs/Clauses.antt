@@ -27,7 +27,7 @@ clause k = record { kind = k }
 abbrev pub noClause : Clause
 noClause = clause (Selection noPlace 0)
 
--- the domain of a column
+-- the domain of a column; 0, which is a domain's number too, where there is no such relation or no such place in its array
 unfoldable pub domainOf : List Relation → Place → ℕ
 domainOf relations a = getD (getD relations (a .relation) pastRelation .columns) (a .column) noColumn .domain
 

@@ -10,6 +10,8 @@ use Rattle.entries.specs.declared.places.Place.{Place}
 use Rattle.entries.specs.declared.relations.Column.{Column}
 use Rattle.contents.specs.declared.envelope.Envelope.{Envelope}
 
+-- what the envelope says of a column: the empty column where there is no such relation, and what its array holds also behind
+-- the last column, which is the empty one in an envelope that was taken
 unfoldable pub columnOf : Envelope → Place → Column
 columnOf e a = getD (getD (relationsOf e) (a .relation) pastRelation .columns) (a .column) noColumn
 

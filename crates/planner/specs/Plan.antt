@@ -20,7 +20,7 @@ use Rattle.estimates.specs.declared.profiles.Profile.{Profile}
 use Rattle.estimates.specs.declared.costs.Costs.{Costs}
 use Rattle.planner.specs.declared.plans.Plan.{Plan}
 
--- ---- the five points
+-- ---- points 2 to 5; point 1, local operations, is localProfile of estimates
 
 -- the cheapest site that holds a relation
 unfoldable pub siteFor : Costs → Envelope → Profile → ℕ

@@ -88,7 +88,7 @@ module _ {P S : Type 0} (k : Kind P S) (start : P) where
     pub below : totalOf found < total k start home [] → out ≡ found
     pub not-below : total k start home [] ≤ totalOf found → out ≡ record { steps = []; site = home }
 
-  -- the five points, and what is handed out
+  -- points 2 to 5, and what is handed out
   pub record Promise (Before : S → S → Type 0) (allowed : List S) (sites : List ℕ) (z : S) (here : ℕ → S → Bool)
       (chosen : List S) (home : ℕ) (found out : Handed S) : Type 0 where
     pub greedy : GreedyProgram Before allowed chosen
