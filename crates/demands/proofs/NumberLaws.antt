@@ -25,6 +25,7 @@ use Rattle.contents.specs.Sites.{holds}
 use Rattle.contents.specs.declared.envelope.Envelope.{Envelope}
 use Rattle.envelopes.specs.Envelope.{filled, listInto, sizeAt, sizesInto, relationsInto, clausesInto, targetsInto, CPN, ended}
 use Rattle.envelopes.specs.Envelope.{targetsThen, clausesThen, relationsThen, sizesThen, envelopeFrom, readEnvelope}
+use Rattle.envelopes.proofs.ReadingLaws.{bare-picked}
 use Rattle.paths.specs.Steps.{step}
 use Rattle.paths.specs.declared.steps.Step.{Step}
 use Rattle.papers.specs.Programs.{SJP, programWith, stepAt, endedProgram, stepsThen, programBy}
@@ -154,7 +155,7 @@ module _ (P : ℕ → Type 0) where
         unfolding ended
         ended-number at e =
             picked (ltb at (length s)) _ _ (refused leftOver at seven)
-            (picked (ltb (firstBare e) (relationCount e)) _ _ (refused noKeptColumn (firstBare e) nine) (taken e at))
+            (rw (bare-picked (ltb (firstBare e) (relationCount e)) (firstBare e) e at) (picked (ltb (firstBare e) (relationCount e)) _ _ (refused noKeptColumn (firstBare e) nine) (taken e at)))
 
         targets-number : (at : ℕ) (e : Envelope) → Refuses (targetsThen s at e)
         unfolding targetsThen

@@ -30,6 +30,7 @@ use Rattle.contents.specs.Sites.{holds}
 use Rattle.contents.specs.declared.envelope.Envelope.{Envelope}
 use Rattle.envelopes.specs.Fits.{PlaceFits, RelationFits, ClauseFits, Fits}
 use Rattle.envelopes.specs.Envelope.{filled, listInto, sizeAt, sizesInto, relationsInto, clausesInto, targetsInto, CPN, ended, targetsThen, clausesThen, relationsThen, sizesThen, envelopeFrom, readEnvelope, envelopeBytes, checkEnvelope}
+use Rattle.envelopes.proofs.ReadingLaws.{bare-picked}
 use Rattle.paths.specs.Steps.{step, legal, stepBytes}
 use Rattle.paths.specs.declared.steps.Step.{Step}
 use Rattle.papers.specs.Programs.{SJP, stepsOf, programWith, stepAt, endedProgram, stepsThen, programBy, programAgainst, programBytes}
@@ -125,7 +126,7 @@ module _ (P : ℕ → Type 0) (s : List ℕ) (four : P beyondLimit) where
     ended-over : (at : ℕ) (e : Envelope) → length s ≤ at → Over P s at (ended s at e) []
     unfolding ended
     ended-over at e end =
-        rw (le-ltb at (length s) end)
+        rw (le-ltb at (length s) end, bare-picked (ltb (firstBare e) (relationCount e)) (firstBare e) e at)
         (over-pick P s at (ltb (firstBare e) (relationCount e)) _ _ [] (over-bad P s at noKeptColumn (firstBare e) [] nine) (over-done P s at e))
 
     targets-over : (at : ℕ) (e : Envelope) → at + length (fromTargets x) ≡ length s → Stands (fromTargets x) s at

@@ -8,11 +8,10 @@ use native.Mathlib.Omega.{arith}
 use lib.ListN.{length}
 use lib.Dec.{ltb}
 use borrow.Author.Tests.{ltb-true, ltb-false}
-use Rattle.ground.specs.Tests.{pick}
 use Rattle.ground.specs.Lists.{Every, each, padded, empty}
 use Rattle.ground.specs.Bytes.{Bytes, bytesOf}
 use Rattle.ground.specs.Outcome.{Outcome, next, many}
-use Rattle.ground.specs.Outcome.Outcome.{good, bad}
+use Rattle.ground.specs.Outcome.Outcome.{good}
 use Rattle.ground.proofs.EveryLaws.{every-map, every-both, map-fixed, fixed-map}
 use Rattle.ground.proofs.SearchingLaws.{past-none, none-past}
 use Rattle.ground.proofs.CollectingLaws.{padded-take}
@@ -26,13 +25,14 @@ use Rattle.entries.specs.Relations.{noRelation, relationAt, relationBytes}
 use Rattle.entries.specs.Places.{noPlace, placeAt, placeBytes}
 use Rattle.entries.specs.Clauses.{noClause, clauseAt, clauseBytes}
 use Rattle.contents.specs.Parts.{sizesOf, relationsOf, clausesOf, targetsOf, relationCount, noEnvelope, withVersion, withSizes, withRelations, withClauses, withTargets}
-use Rattle.contents.specs.Kept.{keptColumns, firstBare}
-use Rattle.envelopes.specs.Envelope.{CPN, filled, listInto, sizeAt, ended, targetsThen, clausesThen, relationsThen, sizesThen, envelopeFrom, readEnvelope, envelopeBytes, checkEnvelope}
+use Rattle.contents.specs.Kept.{keptColumns, firstBare, shownBare}
+use Rattle.envelopes.specs.Envelope.{CPN, filled, listInto, sizeAt, bareOutcome, ended, targetsThen, clausesThen, relationsThen, sizesThen, envelopeFrom, readEnvelope, envelopeBytes, checkEnvelope}
 use Rattle.envelopes.specs.Rules.{Between, RelationWithin, PlaceWithin, ClauseWithin, Within, tidyRelation, tidy}
 use Rattle.entries.specs.declared.places.Place.{Place}
 use Rattle.entries.specs.declared.relations.Relation.{Relation}
 use Rattle.entries.specs.declared.clauses.Clause.{Clause}
 use Rattle.contents.specs.declared.envelope.Envelope.{Envelope}
+use Rattle.envelopes.proofs.ReadingLaws.{bare-picked}
 use Rattle.envelopes.proofs.WrittenBytes.{envelope-bytes}
 use Rattle.envelopes.proofs.ExactPlaces.{named-exact}
 use Rattle.envelopes.proofs.ExactRelations.{relation-exact}
@@ -43,12 +43,13 @@ use Rattle.envelopes.proofs.TidyLaws.{made, tidy-is, tidy-relations, ti
 
 -- each relation has a kept column
 bare-exact : (s : List ℕ) (at : ℕ) (e : Envelope)
-    → Exact s at (pick (ltb (firstBare e) (relationCount e)) (bad noKeptColumn (firstBare e)) (good e at)) (λ _. [])
+    → Exact s at (bareOutcome (shownBare e) e at) (λ _. [])
     (λ c. (c ≡ e) × (relationCount c ≤ firstBare c))
 bare-exact s at e =
-    picked s at (ltb (firstBare e) (relationCount e))
+    rw (bare-picked (ltb (firstBare e) (relationCount e)) (firstBare e) e at)
+    (picked s at (ltb (firstBare e) (relationCount e))
     (λ b. refused s at noKeptColumn (firstBare e) (λ c p h. less (rw (h .0) at (h .1)) (ltb-true _ _ b)))
-    (λ b. restated s at (λ _ _ _. refl) (λ c p h. (h, rw h (ltb-false (firstBare e) (relationCount e) b))) (λ c p h. h .0) (done s at e))
+    (λ b. restated s at (λ _ _ _. refl) (λ c p h. (h, rw h (ltb-false (firstBare e) (relationCount e) b))) (λ c p h. h .0) (done s at e)))
   where
     less : relationCount e ≤ firstBare e → firstBare e < relationCount e → ⊥
     less h k = omega arith

@@ -7,13 +7,13 @@ use native.Mathlib.Omega.{arith}
 use mathlib.Core.List.{List, [], _∷_, _++_}
 use mathlib.Core.Bool.{Bool, true, false}
 use lib.ListN.{length}
-use lib.Dec.{ltb}
 use borrow.Author.Tests.{lt-ltb, le-ltb}
 use Rattle.ground.specs.Tests.{pick}
 use Rattle.ground.specs.Outcome.{Outcome, next, many, verdictOf, nextOf, valueOf}
 use Rattle.ground.specs.Outcome.Outcome.{good, bad}
 use Rattle.ground.specs.declared.Verdict.the-variants.{Taken, Refused}
-use Rattle.ground.proofs.OutcomeLaws.{never, taken-is, refused-is, next-good, numbered-length}
+use Rattle.ground.proofs.OutcomeLaws.{taken-is, refused-is, next-good, numbered-length}
+use Rattle.fields.specs.Refusals.{noKeptColumn}
 use Rattle.fields.specs.Numbers.{numberIn, headOf, shownNumber}
 use Rattle.fields.specs.Puts.{frontOf, frontIn}
 use Rattle.fields.specs.declared.numbers.NumberRead.{NumberRead}
@@ -22,9 +22,9 @@ use Rattle.fields.specs.declared.puts.Written.{Written}
 use Rattle.fields.specs.declared.puts.Written.the-variants as w
 use Rattle.fields.proofs.NumberLaws.{number-good, number-bad, in-good}
 use Rattle.fields.proofs.PutLaws.{written-refused, written-front}
-use Rattle.contents.specs.Parts.{relationCount, noEnvelope, withVersion, withSizes}
-use Rattle.contents.specs.Kept.{firstBare, shownBare}
-use Rattle.envelopes.specs.Envelope.{CPN, sizeAt, filled, listInto, sizesInto, relationsInto, clausesInto, targetsInto, ended, targetsThen, clausesThen, relationsThen, sizesThen, envelopeFrom, readEnvelope, envelopeBytes, checkEnvelope, envelopeWritten, envelopeWrittenIn, shownPart, shownEnvelope}
+use Rattle.contents.specs.Parts.{noEnvelope, withVersion, withSizes}
+use Rattle.contents.specs.Kept.{shownBare}
+use Rattle.envelopes.specs.Envelope.{CPN, sizeAt, filled, listInto, sizesInto, relationsInto, clausesInto, targetsInto, bareOutcome, ended, targetsThen, clausesThen, relationsThen, sizesThen, envelopeFrom, readEnvelope, envelopeBytes, checkEnvelope, envelopeWritten, envelopeWrittenIn, shownPart, shownEnvelope}
 use Rattle.contents.specs.declared.kept.Bare.{Bare}
 use Rattle.contents.specs.declared.kept.Bare.the-variants.{Lowest, None}
 use Rattle.contents.specs.declared.envelope.Envelope.{Envelope}
@@ -44,13 +44,9 @@ read-none m q z e = ap (λ (x : Envelope). record { verdict = Refused m q; envel
 
 -- ---- the end: bytes left over, a relation with no kept column
 
-bare-by : (r k f : ℕ) (b : Bool) → ltb f k ≡ b → Lowest r ≡ pick b (Lowest f) None → (ltb f k ≡ true) × (r ≡ f)
-bare-by r k f true h e = (h, cc)
-bare-by r k f false h e = let z : _≡_ {A = ℕ} 0 1 = cc in absurd (never z)
-
-whole-by : (k f : ℕ) (b : Bool) → ltb f k ≡ b → None ≡ pick b (Lowest f) None → ltb f k ≡ false
-whole-by k f true h e = let z : _≡_ {A = ℕ} 0 1 = cc in absurd (never z)
-whole-by k f false h e = h
+pub bare-picked : (b : Bool) (f : ℕ) (e : Envelope) (at : ℕ) → bareOutcome (pick b (Lowest f) None) e at ≡ pick b (bad noKeptColumn f) (good e at)
+bare-picked true f e at = refl
+bare-picked false f e at = refl
 
 module _ (s : List ℕ) (at : ℕ) (e : Envelope) where
   pub end-left : (x : EnvelopeRead) → at < length s → x ≡ shownEnvelope (bad 7 at) → x ≡ shownEnvelope (ended s at e)
@@ -61,13 +57,12 @@ module _ (s : List ℕ) (at : ℕ) (e : Envelope) where
     pub end-bare : (r : ℕ) (x : EnvelopeRead) → b ≡ Lowest r → x ≡ shownEnvelope (bad 9 r) → x ≡ shownEnvelope (ended s at e)
     unfolding ended
     end-bare r x k y =
-        let t = bare-by r (relationCount e) (firstBare e) (ltb (firstBare e) (relationCount e)) refl (sym k ∙ g) in
-        y ∙ simp (le-ltb _ _ h, t .0, t .1)
+        y ∙ ap (λ (c : Bare). shownEnvelope (bareOutcome c e at)) (sym k ∙ g) ∙ simp (le-ltb _ _ h)
 
     pub end-taken : b ≡ None → record { verdict = Taken; envelope = e } ≡ shownEnvelope (ended s at e)
     unfolding ended verdictOf valueOf
     end-taken k =
-        simp (le-ltb _ _ h, whole-by (relationCount e) (firstBare e) (ltb (firstBare e) (relationCount e)) refl (sym k ∙ g))
+        ap (λ (c : Bare). shownEnvelope (bareOutcome c e at)) (sym k ∙ g) ∙ simp (le-ltb _ _ h)
 
 -- ---- the parts, each with what follows
 

@@ -18,9 +18,11 @@ use Rattle.fields.specs.declared.puts.Written.{Written}
 use Rattle.entries.specs.Relations.{relationAt, relationBytes}
 use Rattle.entries.specs.Places.{placeAt, placeBytes}
 use Rattle.entries.specs.Clauses.{clauseAt, clauseBytes}
-use Rattle.contents.specs.Parts.{sizesOf, relationsOf, clausesOf, targetsOf, relationCount, noEnvelope, withVersion, withSizes, withRelations, withClauses, withTargets}
-use Rattle.contents.specs.Kept.{firstBare}
+use Rattle.contents.specs.Parts.{sizesOf, relationsOf, clausesOf, targetsOf, noEnvelope, withVersion, withSizes, withRelations, withClauses, withTargets}
+use Rattle.contents.specs.Kept.{shownBare}
 use Rattle.contents.specs.declared.envelope.Envelope.{Envelope}
+use Rattle.contents.specs.declared.kept.Bare.{Bare}
+use Rattle.contents.specs.declared.kept.Bare.the-variants.{Lowest, None}
 use Rattle.envelopes.specs.declared.sections.EnvelopePart.{EnvelopePart}
 use Rattle.envelopes.specs.declared.reading.EnvelopeRead.{EnvelopeRead}
 
@@ -53,11 +55,14 @@ targetsInto s at e = listInto 1 16 withTargets (placeAt (e .«relation_count») 
 abbrev pub CPN : List ℕ
 CPN = 67 ∷ 80 ∷ 78 ∷ []
 
+-- 9 with the lowest relation that has no kept column, or the envelope
+abbrev pub bareOutcome : Bare → Envelope → ℕ → Outcome Envelope
+bareOutcome (Lowest r) e at = bad noKeptColumn r
+bareOutcome None e at = good e at
+
 -- nothing may be left over, then each relation has a kept column
 unfoldable pub ended : List ℕ → ℕ → Envelope → Outcome Envelope
-ended s at e =
-    pick (ltb at (length s)) (bad leftOver at)
-    (pick (ltb (firstBare e) (relationCount e)) (bad noKeptColumn (firstBare e)) (good e at))
+ended s at e = pick (ltb at (length s)) (bad leftOver at) (bareOutcome (shownBare e) e at)
 
 -- the parts one after the other, each with what follows it
 unfoldable pub targetsThen : List ℕ → ℕ → Envelope → Outcome Envelope
