@@ -1,6 +1,6 @@
 -- How the code finds out what is on a path: each node of an envelope has a number, each number a label, and along each
--- edge the two ends' labels are made one. The law labels-path says that the labels of two nodes of the envelope are equal
--- exactly where a path joins them.
+-- edge the two ends' labels are made one. The law labels-path says that the labels of two nodes of an envelope that was taken are
+-- equal exactly where a path joins them; in another struct a clause may name a column 8, which has the number of another node.
 use mathlib.Core.Path.{_≡_}
 use mathlib.Core.Bool.{Bool, true, false, _&&_}
 use mathlib.Core.List.{List, [], _∷_, map, List·Memᴰ}

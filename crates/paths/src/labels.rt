@@ -1,5 +1,5 @@
-// A label for each column and each constant of an envelope: equal labels exactly where a path joins two. Whatever struct comes
-// in has labels: a number past the array has label 0.
+// A label for each column and each constant of an envelope: of one that was taken, equal labels exactly where a path joins two.
+// Whatever struct comes in has labels: a number past the array has label 0.
 use contents::envelope::Envelope;
 use entries::clauses::Clause;
 use entries::clauses::ClauseKind;
@@ -202,7 +202,7 @@ fn by_clauses(envelope: Envelope, clauses: [Clause; 12], n: u8) -> [u8; 76]
     labels
 }
 
-// The labels of an envelope's columns and constants.
+// The labels of the columns and constants of an envelope that was taken; of another struct what the same clauses make.
 pub fn labels_of(envelope: Envelope) -> Labels
     ensures { λ r. ⌜ r ≡ record { of = labelsOf envelope } ⌝ }
 {

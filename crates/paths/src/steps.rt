@@ -30,7 +30,7 @@ pub fn is_place(envelope: Envelope, place: Place) -> bool
     (place.column as u32) < contents::parts::columns_in(envelope, place.relation)
 }
 
-// Whether a step is legal by an envelope's labels.
+// Whether a step is legal by the labels of an envelope that was taken.
 pub fn legal_by(envelope: Envelope, labels: Labels, step: Step) -> bool
     ensures { λ r. ⌜ r ≡ legalBy (byLabels (labels .of) envelope) envelope step ⌝ }
 {
