@@ -12,11 +12,9 @@ use Rattle.contents.specs.declared.envelope.Envelope.{Envelope}
 use Rattle.envelopes.specs.Rules.{Within}
 use Rattle.envelopes.specs.Fits.{Fits}
 use Rattle.envelopes.proofs.ExactEnvelope.{envelope-exact}
-use Rattle.paths.specs.Paths.{column}
 use Rattle.paths.specs.Steps.{legal}
 use Rattle.paths.specs.Meaning.{answerOn, answerRows, answerWords}
 use Rattle.paths.specs.declared.steps.Step.{Step}
-use Rattle.paths.proofs.PathLaws.{on-path}
 use Rattle.paths.proofs.StepLaws.{legal-step, step-legal, legal-member}
 use Rattle.papers.specs.Programs.{stepsOf}
 use Rattle.papers.specs.declared.programs.Program.{Program}
@@ -41,12 +39,12 @@ use Rattle.demands.specs.DemandTwo.{OnPath, EstimateKept, DemandTwo}
 legal-path : (e : Envelope) (s : Step) → legal e s ≡ true → OnPath e s
 legal-path e s t =
     let l = legal-step e s t in
-    record { left = l .left; right = l .right; differ = l .differ; path = on-path e (column (s .left)) (column (s .right)) .0 (l .path) }
+    record { left = l .left; right = l .right; differ = l .differ; path = l .path }
 
 path-legal : (e : Envelope) (s : Step) → OnPath e s → legal e s ≡ true
 path-legal e s l =
     step-legal e s
-    (record { left = l .left; right = l .right; differ = l .differ; path = on-path e (column (s .left)) (column (s .right)) .1 (l .path) })
+    (record { left = l .left; right = l .right; differ = l .differ; path = l .path })
 
 -- ---- the estimate
 

@@ -32,7 +32,7 @@ use Rattle.paths.specs.Steps.{isPlace, legal, LegalStep}
 use Rattle.paths.specs.Implied.{impliedSelections}
 use Rattle.paths.specs.declared.steps.Step.{Step}
 use Rattle.paths.specs.declared.implied.Selected.{Selected}
-use Rattle.paths.proofs.PathLaws.{on-path, path-equal}
+use Rattle.paths.proofs.PathLaws.{path-equal}
 use Rattle.paths.proofs.LabelLaws.{place-node, place-within}
 use Rattle.paths.proofs.StepLaws.{legal-step}
 use Rattle.estimates.specs.Division.{over}
@@ -208,7 +208,7 @@ module _ (e : Envelope) (w : Within e) where
   step-domain s l =
       ap (λ (d : ℕ). getD (sizesOf e) d 0)
       (domain-used (s .left) (place-within e w (s .left) (l .left))
-      ∙ path-equal domainAt (edges e) edge-domain (on-path e (column (s .left)) (column (s .right)) .0 (l .path))
+      ∙ path-equal domainAt (edges e) edge-domain (l .path)
       ∙ sym (domain-used (s .right) (place-within e w (s .right) (l .right))))
 
   -- ---- bounds of a profile

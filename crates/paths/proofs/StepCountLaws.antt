@@ -21,7 +21,7 @@ use Rattle.entries.specs.declared.clauses.Clause.{Clause}
 use Rattle.contents.specs.declared.envelope.Envelope.{Envelope}
 use Rattle.paths.specs.Paths.{Node, column, Edge, edgeOf, edges, linked, onPath}
 use Rattle.paths.specs.Steps.{step, places, legal, legalSteps, PlaceBefore}
-use Rattle.paths.proofs.PathLaws.{same-node, Ways, split, before, onward, backward, linked-turned, linked-chain}
+use Rattle.paths.proofs.PathLaws.{same-node, Ways, split, before, onward, backward, linked-turned, linked-chain, path-linked}
 use Rattle.paths.proofs.StepLaws.{places-ordered, legal-step, legal-symmetric}
 
 abbrev one : Bool → ℕ
@@ -196,7 +196,7 @@ unfolding legalSteps edges onPath
 legal-few e w =
     let more : repeats (joins (edges e)) (places e) + 1 ≤ 13 = omega (arith, few) in
     le-trans
-    (pairs-few (joins (edges e)) two step (legal e) self (legal-symmetric e) (λ a b t. legal-step e (step a b) t .path) (places e))
+    (pairs-few (joins (edges e)) two step (legal e) self (legal-symmetric e) (λ a b t. path-linked (legal-step e (step a b) t .path)) (places e))
     (mul-le-mul few more)
   where
     two : (a b c : Place) → joins (edges e) a b ≡ true → joins (edges e) a c ≡ true → joins (edges e) b c ≡ true

@@ -22,7 +22,7 @@ use Rattle.paths.specs.Paths.{column, onPath}
 use Rattle.paths.specs.Labels.{labelsOf, byLabels}
 use Rattle.paths.specs.Steps.{step, places, isPlace, legalBy, legal, LegalStep, legalSteps, PlaceBefore, StepBefore}
 use Rattle.paths.specs.declared.steps.Step.{Step}
-use Rattle.paths.proofs.PathLaws.{on-path-symmetric}
+use Rattle.paths.proofs.PathLaws.{on-path, on-path-symmetric}
 use Rattle.paths.proofs.LabelLaws.{place-in, in-place, place-node, labels-path}
 
 -- ---- what a legal step is
@@ -38,12 +38,12 @@ module _ (e : Envelope) where
         left = and-left _ _ places;
         right = and-right (isPlace e (s .left)) _ places;
         differ = eqb-false _ _ (not-true _ (and-left _ _ rest));
-        path = and-right (not (eqb (s .left .relation) (s .right .relation))) _ rest;
+        path = on-path e (column (s .left)) (column (s .right)) .0 (and-right (not (eqb (s .left .relation) (s .right .relation))) _ rest);
       }
 
   pub step-legal : (s : Step) → LegalStep e s → legal e s ≡ true
   unfolding legalBy
-  step-legal s l = rw (l .left, l .right, ne-eqb _ _ (l .differ), l .path)
+  step-legal s l = rw (l .left, l .right, ne-eqb _ _ (l .differ), on-path e (column (s .left)) (column (s .right)) .1 (l .path))
 
   pub legal-symmetric : (a b : Place) → legal e (step a b) ≡ legal e (step b a)
   legal-symmetric a b = same-test (legal e (step a b)) (legal e (step b a)) (turned a b) (turned b a)
@@ -55,7 +55,7 @@ module _ (e : Envelope) where
             left = l .right;
             right = l .left;
             differ = λ p. l .differ (sym p);
-            path = on-path-symmetric e (column b) (column a) ∙ l .path;
+            path = on-path e (column b) (column a) .0 (on-path-symmetric e (column b) (column a) ∙ on-path e (column a) (column b) .1 (l .path));
           }
 
   -- labels tell whether a step is legal, whatever step it is

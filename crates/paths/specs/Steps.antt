@@ -12,7 +12,7 @@ use Rattle.entries.specs.Places.{place, placeBytes}
 use Rattle.contents.specs.Parts.{relationCount, columnsIn}
 use Rattle.entries.specs.declared.places.Place.{Place}
 use Rattle.contents.specs.declared.envelope.Envelope.{Envelope}
-use Rattle.paths.specs.Paths.{Node, column, onPath}
+use Rattle.paths.specs.Paths.{Node, column, edges, PathBetween, onPath}
 use Rattle.paths.specs.declared.steps.Step.{Step}
 use Rattle.paths.specs.declared.steps.Legality.{Legality}
 use Rattle.paths.specs.declared.steps.Legality.the-variants.{Legal, NotLegal, Refused}
@@ -36,12 +36,12 @@ legalBy path e s =
 abbrev pub legal : Envelope → Step → Bool
 legal e = legalBy (onPath e) e
 
--- the same as a statement
+-- the same as a statement, by the path itself
 pub record LegalStep (e : Envelope) (s : Step) : Type 0 where
   pub left : isPlace e (s .left) ≡ true
   pub right : isPlace e (s .right) ≡ true
   pub differ : s .left .relation ≡ s .right .relation → ⊥
-  pub path : onPath e (column (s .left)) (column (s .right)) ≡ true
+  pub path : PathBetween (edges e) (column (s .left)) (column (s .right))
 
 -- the legal steps, by left relation, left column, right relation, right column
 unfoldable pub legalSteps : Envelope → List Step
