@@ -18,8 +18,7 @@ use Rattle.paths.specs.Steps.{legal, legality, legalityOf}
 use Rattle.paths.specs.declared.steps.Step.{Step}
 use Rattle.paths.specs.declared.steps.Legality.{Legality}
 use Rattle.paths.specs.declared.steps.Legality.the-variants as Legality
-use Rattle.papers.specs.Programs.{readProgram, checkProgram, programBytes}
-use Rattle.papers.specs.declared.programs.Program.{Program}
+use Rattle.papers.specs.Programs.{checkProgram, programBytes}
 use Rattle.tables.specs.Shape.{marksTests, columnTests}
 use Rattle.tables.proofs.CallLaws.{values-number as gathered-number, values-stay}
 use Rattle.semijoin.specs.Marks.{marksAfter}
@@ -31,7 +30,7 @@ use Rattle.station.proofs.MakingLaws.{values-number, rows-number, made-untouche
 use Rattle.station.proofs.ReceivingLaws.{lastNumbers, received-number, received-marks, received-store, received-end}
 use Rattle.answerer.specs.Answer.{answeredIn}
 use Rattle.demands.proofs.StructPapers.{check-struct, papers-struct}
-use Rattle.demands.proofs.PaperLaws.{read-number, check-number, program-read-number, program-by-number, program-check-number, papers-number, write-refused, plan-refused, estimate-refused}
+use Rattle.demands.proofs.PaperLaws.{read-number, check-number, program-read-number, program-check-number, papers-number, write-refused, plan-refused, estimate-refused}
 use Rattle.demands.proofs.AnswerNumbers.{tables-number, sound-number, end-number}
 use Rattle.demands.specs.DemandOne.{ownPapers, EveryCall}
 
@@ -93,7 +92,6 @@ demand-one e p x s words marks store out =
     record {
       envelope-read = read-number s;
       program-read = program-read-number e s;
-      program-by = λ lawful. program-by-number lawful e s;
       envelope-checked = check-number e;
       program-checked = program-check-number e p;
       papers-checked = papers-number e p;

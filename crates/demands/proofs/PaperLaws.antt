@@ -20,8 +20,7 @@ use Rattle.fields.specs.declared.puts.Written.the-variants as Written
 use Rattle.contents.specs.declared.envelope.Envelope.{Envelope}
 use Rattle.envelopes.specs.Envelope.{readEnvelope, checkEnvelope, envelopeBytes}
 use Rattle.paths.specs.Steps.{legal}
-use Rattle.paths.specs.declared.steps.Step.{Step}
-use Rattle.papers.specs.Programs.{programBy, programAgainst, readProgram, checkProgram, programBytes}
+use Rattle.papers.specs.Programs.{programAgainst, readProgram, checkProgram, programBytes}
 use Rattle.papers.specs.Checks.{papersOf}
 use Rattle.papers.specs.declared.programs.Program.{Program}
 use Rattle.papers.specs.declared.checks.Papers.{Papers}
@@ -42,15 +41,6 @@ read-number s =
 pub check-number : (e : Envelope) (n u : ℕ) → checkEnvelope e ≡ bad n u → List·Memᴰ n envelopeNumbers
 unfolding checkEnvelope
 check-number e = read-number (envelopeBytes e)
-
--- by any test of steps: never 5, 6 or 9
-pub program-by-number : (lawful : Step → Bool) (e : Envelope) (s : List ℕ) (n u : ℕ) → programBy lawful e s ≡ bad n u
-    → List·Memᴰ n (endsInside ∷ wrongMark ∷ wrongVersion ∷ beyondLimit ∷ leftOver ∷ notLegal ∷ [])
-program-by-number lawful e s =
-    program-number (λ n. List·Memᴰ n (endsInside ∷ wrongMark ∷ wrongVersion ∷ beyondLimit ∷ leftOver ∷ notLegal ∷ [])) (search List·Memᴰ·head)
-    (search (List·Memᴰ·head, List·Memᴰ·tail) depth 12) (search (List·Memᴰ·head, List·Memᴰ·tail) depth 12)
-    (search (List·Memᴰ·head, List·Memᴰ·tail) depth 12) (search (List·Memᴰ·head, List·Memᴰ·tail) depth 12)
-    (search (List·Memᴰ·head, List·Memᴰ·tail) depth 12) lawful e s
 
 against-number : (e : Envelope) (s : List ℕ) (n u : ℕ) → programAgainst e s ≡ bad n u → List·Memᴰ n papersNumbers
 against-number e s =

@@ -162,9 +162,6 @@ no-step-one κs a y z u v p q = (same p q, refl)
 pub no-program-one : Determined programs.no_program.Kinds.ps programs.no_program.Kinds.r programs.no_program.Reads.Learnt
 no-program-one κs a y z u v p q = (same p q, refl)
 
-pub read-program-by-one : Determined programs.read_program_by.Kinds.ps programs.read_program_by.Kinds.r programs.read_program_by.Reads.Learnt
-read-program-by-one κs a y z u v p q = (same p q, refl)
-
 pub read-program-one : Determined programs.read_program.Kinds.ps programs.read_program.Kinds.r programs.read_program.Reads.Learnt
 read-program-one κs a y z u v p q = (same p q, refl)
 

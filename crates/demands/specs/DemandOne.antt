@@ -5,7 +5,7 @@
 -- docs/CONTRACTS.md has the functions that cannot refuse, and those that read one field or entry of a paper.
 use Rattle.demands.specs.Words.{ℕ, _≡_, Bool, List, [], _∷_, List·Memᴰ, _⊎_, length, Outcome, bad, judgement, Refused, Unwritten, Unjudged, Place, Envelope, Fits}
 use Rattle.demands.specs.Words.{Step, Program, ProgramFits, Papers, readEnvelope, checkEnvelope, envelopeWritten, envelopeWrittenIn, legalityOf, selectionsRead, equalitiesRead}
-use Rattle.demands.specs.Words.{programBy, readProgram, checkProgram, programWritten, programWrittenIn, papersOf, estimateOf, planOf, marksTests, columnTests, valuesOutcome}
+use Rattle.demands.specs.Words.{readProgram, checkProgram, programWritten, programWrittenIn, papersOf, estimateOf, planOf, marksTests, columnTests, valuesOutcome}
 use Rattle.demands.specs.Words.{gatheredIn, openOutcome, reduceOutcome, marksAfter, runOutcome, End, soundEnd, usable, openOf, openedMarks, makeValuesOf, makeRowsOf, madeIn}
 use Rattle.demands.specs.Words.{Held, receiveOf, refusedBy, shownReceived, receivedMarks, receivedStore, answerOutcome, answeredIn, assembledOutcome}
 
@@ -37,7 +37,6 @@ pub record DemandOne (e : Envelope) (p : Program) (x : End) (s words marks store
   -- papers as bytes; as structs; as structs whose numbers are within the width of their fields, as all are
   pub envelope-read : By bad (readEnvelope s) envelopeNumbers
   pub program-read : By bad (readProgram e s) papersNumbers
-  pub program-by : (lawful : Step → Bool) → By bad (programBy lawful e s) (1 ∷ 2 ∷ 3 ∷ 4 ∷ 7 ∷ 8 ∷ [])
   pub envelope-checked : By bad (checkEnvelope e) envelopeNumbers
   pub program-checked : By bad (checkProgram e p) papersNumbers
   pub papers-checked : By bad (papersOf e p) papersNumbers

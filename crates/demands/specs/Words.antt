@@ -12,7 +12,7 @@ pub use Rattle.envelopes.specs.{Rules.tidy, Fits.Fits}
 pub use Rattle.paths.specs.{Paths.column, Paths.PathBetween, Paths.edges, Steps.isPlace, Steps.legal, Steps.legalSteps, Steps.legalityOf, Implied.selectionsRead}
 pub use Rattle.paths.specs.{Implied.equalitiesRead, Meaning.Row, Meaning.meetsAll, Meaning.targetRow, Meaning.tablesOf, Meaning.answerRows}
 pub use Rattle.paths.specs.{Meaning.answerWords, declared.steps.Step.Step, declared.steps.Legality.the-variants.Refused as Unjudged}
-pub use Rattle.papers.specs.{Programs.stepsOf, Programs.programBy, Programs.readProgram, Programs.checkProgram, Programs.programBytes, Programs.programWritten}
+pub use Rattle.papers.specs.{Programs.stepsOf, Programs.readProgram, Programs.checkProgram, Programs.programBytes, Programs.programWritten}
 pub use Rattle.papers.specs.{Programs.programWrittenIn, Programs.Acceptable, Programs.tidyProgram, Checks.papersOf, Fits.ProgramFits, declared.programs.Program.Program}
 pub use Rattle.papers.specs.{declared.checks.Papers.Papers}
 pub use Rattle.estimates.specs.{Profile.localProfile, Costs.plainCosts, Costs.assemblyAt, Kind.afterAll as profileAfter, Estimate.kindOf, Estimate.linesOf}

@@ -156,8 +156,9 @@ fn from_count(s: &[u8], at: usize, site: u8, envelope: Envelope, labels: Labels)
     }
 }
 
-// A program against an envelope that was found good, by the labels of that envelope.
-pub fn read_program_by(s: &[u8], envelope: Envelope, labels: Labels) -> ProgramRead
+// A program against an envelope that was found good, by the labels of that envelope. Private: by other labels, steps that are
+// not legal would be taken.
+fn read_program_by(s: &[u8], envelope: Envelope, labels: Labels) -> ProgramRead
     ensures { λ r. ⌜ r ≡ shownProgram (programBy (legalBy (byLabels (labels .of) envelope) envelope) envelope (now (s .entry))) ⌝ }
 {
     match fields::numbers::read_head(s, b'S', b'J', b'P', 1) {
