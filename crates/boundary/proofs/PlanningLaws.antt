@@ -16,12 +16,12 @@ use Rattle.ground.proofs.WritingLaws.{Writing, writing-more}
 use Rattle.fields.specs.Refusals.{tooShort}
 use Rattle.fields.specs.Puts.{writtenOf, writtenIn, Puts}
 use Rattle.fields.specs.declared.puts.Written.{Written}
-use Rattle.envelopes.specs.Envelope.{readEnvelope, checkEnvelope, shownEnvelope}
+use Rattle.envelopes.specs.Envelope.{readEnvelope, shownEnvelope}
 use Rattle.contents.specs.declared.envelope.Envelope.{Envelope}
 use Rattle.envelopes.specs.declared.reading.EnvelopeRead.{EnvelopeRead}
 use Rattle.envelopes.proofs.ReadingLaws.{read-taken, read-refused}
 use Rattle.papers.specs.Programs.{programBytes, checkProgram, programWritten, programWrittenIn}
-use Rattle.papers.specs.Checks.{shownPapers}
+use Rattle.papers.specs.Checks.{papersOf, shownPapers}
 use Rattle.paths.specs.declared.steps.Step.{Step}
 use Rattle.papers.specs.declared.programs.Program.{Program}
 use Rattle.papers.specs.declared.checks.Papers.{Papers}
@@ -197,7 +197,7 @@ module _ (e p out : List ℕ) (c : PapersRead) (g : c ≡ shownPapers (papersIn 
   Costs r after o = (r ≡ madeWord (shownMade o)) × (after ≡ madeIn out o)
 
   abbrev costing : Papers → Outcome (List ℕ)
-  costing q = estimateWith (estimateOf (checkEnvelope (q .envelope)) (checkProgram (q .envelope) (q .program))) (length out)
+  costing q = estimateWith (estimateOf (papersOf (q .envelope) (q .program))) (length out)
 
   pub estimate-refused : (m u r : ℕ) → c .verdict ≡ Refused m u → r ≡ answerWord m u → Costs r out (estimateFrom e p (length out))
   unfolding estimateFrom shownMade madeWord leaves
@@ -205,7 +205,7 @@ module _ (e p out : List ℕ) (c : PapersRead) (g : c ≡ shownPapers (papersIn 
       refused-says (papersIn e p) (λ q _. costing q) (Costs r out) m u (papers-refused (papersIn e p) c m u g t) (k, refl)
 
   pub estimate-taken : c .verdict ≡ Taken → (x : Estimate) (z : Made) (after : List ℕ) (r : ℕ)
-      → x ≡ estimateOf (checkEnvelope (c .papers .envelope)) (checkProgram (c .papers .envelope) (c .papers .program))
+      → x ≡ estimateOf (papersOf (c .papers .envelope) (c .papers .program))
       → (z ≡ shownMade (estimateWith x (length out))) × (after ≡ madeIn out (estimateWith x (length out))) → r ≡ madeWord z
       → Costs r after (estimateFrom e p (length out))
   unfolding estimateFrom

@@ -8,8 +8,9 @@ use Rattle.ground.specs.Outcome.{Outcome, next}
 use Rattle.ground.specs.Outcome.Outcome.{good, bad}
 use Rattle.ground.specs.declared.Verdict.{Verdict}
 use Rattle.ground.specs.declared.Verdict.the-variants as verdict
-use Rattle.envelopes.specs.Envelope.{readEnvelope, checkEnvelope}
+use Rattle.envelopes.specs.Envelope.{readEnvelope}
 use Rattle.papers.specs.Programs.{checkProgram}
+use Rattle.papers.specs.Checks.{papersOf}
 use Rattle.papers.specs.declared.programs.Program.{Program}
 use Rattle.papers.specs.declared.checks.Papers.{Papers}
 use Rattle.estimates.specs.Estimate.{estimateOf}
@@ -59,4 +60,4 @@ estimateWith x room = unless (x .verdict) (fitted room (estimateWords x))
 unfoldable pub estimateFrom : List ℕ → List ℕ → ℕ → Outcome (List ℕ)
 estimateFrom e p room =
     next (papersIn e p)
-    (λ q _. estimateWith (estimateOf (checkEnvelope (q .envelope)) (checkProgram (q .envelope) (q .program))) room)
+    (λ q _. estimateWith (estimateOf (papersOf (q .envelope) (q .program))) room)

@@ -1,7 +1,7 @@
 -- Demand 1 holds: each call's refusals have the numbers that 01 lists for it, and leave everything as it was.
 use mathlib.Core.Path.{_≡_, ap, _∙_}
 use mathlib.Core.Bool.{Bool, true, false}
-use mathlib.Core.List.{List, [], _∷_, _++_, map, List·Memᴰ, List·Memᴰ·head, List·Memᴰ·tail, Memᴰ·append-left, Memᴰ·append-right}
+use mathlib.Core.List.{List, [], _∷_, _++_, map, List·Memᴰ, List·Memᴰ·head, Memᴰ·append-left, Memᴰ·append-right}
 use mathlib.Core.Logic.{_⊎_, inl, inr}
 use Prim.Native.Nat.{ℕ}
 use lib.ListN.{length}
@@ -23,7 +23,6 @@ use Rattle.tables.specs.Shape.{marksTests, columnTests}
 use Rattle.tables.proofs.CallLaws.{values-number as gathered-number, values-stay}
 use Rattle.semijoin.specs.Marks.{marksAfter}
 use Rattle.semijoin.proofs.CallLaws.{call-promise}
-use Rattle.ends.specs.declared.ends.End.{End}
 use Rattle.ends.proofs.SoundLaws.{firstNumbers, usable-number}
 use Rattle.station.proofs.OpeningLaws.{open-number, open-untouched}
 use Rattle.station.proofs.MakingLaws.{values-number, rows-number, made-untouched}
@@ -32,7 +31,7 @@ use Rattle.answerer.specs.Answer.{answeredIn}
 use Rattle.demands.proofs.StructPapers.{check-struct, papers-struct}
 use Rattle.demands.proofs.PaperLaws.{read-number, check-number, program-read-number, program-check-number, papers-number, write-refused, plan-refused, estimate-refused}
 use Rattle.demands.proofs.AnswerNumbers.{tables-number, sound-number, end-number}
-use Rattle.demands.specs.DemandOne.{ownPapers, EveryCall}
+use Rattle.demands.specs.DemandOne.{EveryCall}
 
 -- ---- what was lent stays
 
@@ -79,12 +78,6 @@ legality-refused (good e q) t n u h = go (legal e t) h
     go true k = let z : _≡_ {A = ℕ} 0 1 = cc in absurd (never z)
     go false k = let z : _≡_ {A = ℕ} 0 1 = cc in absurd (never z)
 
--- a program is refused as its envelope is
-program-first : (e : Envelope) (p : Program) (n u : ℕ) → (checkEnvelope e ≡ bad n u) ⊎ (checkProgram e p ≡ bad n u) → checkProgram e p ≡ bad n u
-unfolding checkProgram readProgram
-program-first e p n u (inl h) = rw h
-program-first e p n u (inr h) = h
-
 -- ---- all calls
 
 pub demand-one : EveryCall
@@ -110,7 +103,7 @@ demand-one e p x s words marks store out =
       equalities = λ r n u h. inl (refused-is (checkEnvelope e) n u h);
       planning = λ n u h. inl (plan-refused (checkEnvelope e) n u h);
       planning-bytes = λ n u h. inl (plan-refused _ n u h);
-      estimating = λ n u h. inl (program-first e p n u (estimate-refused (checkEnvelope e) (checkProgram e p) n u h));
+      estimating = λ n u h. inl (estimate-refused (papersOf e p) n u h);
       marks-judged = λ k. judged-alone (marksTests e words k);
       column-judged = λ a k. judged-alone (columnTests e a words k);
       gathering = λ a start. (λ n u h. gathered-number e a words marks start out n u h .0, values-stay e a words marks start out);

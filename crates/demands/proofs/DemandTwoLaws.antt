@@ -18,6 +18,7 @@ use Rattle.paths.specs.declared.steps.Step.{Step}
 use Rattle.paths.proofs.StepLaws.{legal-step, step-legal, legal-member}
 use Rattle.papers.specs.Programs.{stepsOf}
 use Rattle.papers.specs.declared.programs.Program.{Program}
+use Rattle.papers.specs.declared.checks.Papers.{Papers}
 use Rattle.papers.proofs.ExactPrograms.{read-exact}
 use Rattle.papers.proofs.ExactChecks.{check-exact}
 use Rattle.estimates.specs.Costs.{plainCosts}
@@ -58,9 +59,9 @@ estimate-kept f g =
       total = estimated-total plainCosts f (stepsOf g) (g .site);
     }
 
-estimate-holds : (f : Envelope) (g : Program) (u v : ℕ) → EstimateKept f g (estimateOf (good f u) (good g v))
+estimate-holds : (q : Papers) (u : ℕ) → EstimateKept (q .envelope) (q .program) (estimateOf (good q u))
 unfolding estimateOf
-estimate-holds f g u v = estimate-kept f g
+estimate-holds q u = estimate-kept (q .envelope) (q .program)
 
 -- ---- the answer, where it is taken
 
@@ -104,7 +105,7 @@ demand-two =
       program-bytes = λ e fits s b p q. read-exact e fits s p q b;
       program-struct = λ e fits p small r q. check-exact e fits p r q small;
       program-legal = λ e p h. every-map (λ (s : Step). legal e s ≡ true) (OnPath e) (stepsOf p) (legal-path e) (h .steps);
-      estimate = λ e f p g u v h k. rw (h, k) (estimate-holds f g u v);
+      estimate = λ e p q u h. rw h (estimate-holds q u);
       plan-struct = plan-checked;
       plan-bytes = plan-read;
       run = λ e fits p small words marks after u. call-promise .run-exact e p words marks fits small after u;

@@ -2,7 +2,7 @@
 -- is refused by those or 11, and then leaves the buffer.
 use mathlib.Core.Path.{_≡_, refl}
 use mathlib.Core.Bool.{Bool, true, false}
-use mathlib.Core.List.{List, [], _∷_, List·Memᴰ, List·Memᴰ·head, List·Memᴰ·tail}
+use mathlib.Core.List.{List, List·Memᴰ, List·Memᴰ·head, List·Memᴰ·tail}
 use mathlib.Core.Logic.{_⊎_, inl, inr}
 use Prim.Native.Nat.{ℕ}
 use lib.ListN.{length}
@@ -13,7 +13,7 @@ use Rattle.ground.specs.Outcome.{Outcome, next, verdictOf}
 use Rattle.ground.specs.Outcome.Outcome.{good, bad}
 use Rattle.ground.specs.declared.Verdict.the-variants.{Refused}
 use Rattle.ground.proofs.OutcomeLaws.{never, good-bad, next-bad}
-use Rattle.fields.specs.Refusals.{endsInside, wrongMark, wrongVersion, beyondLimit, leftOver, notLegal, tooShort}
+use Rattle.fields.specs.Refusals.{tooShort}
 use Rattle.fields.specs.Puts.{frontOf, frontIn, writtenOf, writtenIn}
 use Rattle.fields.specs.declared.puts.Written.{Written}
 use Rattle.fields.specs.declared.puts.Written.the-variants as Written
@@ -104,9 +104,7 @@ unfolding planOf planFor noPlan estimated verdictOf
 plan-refused (good e p) n u h = let z : _≡_ {A = ℕ} 0 1 = cc in absurd (never z)
 plan-refused (bad m p) n u h = cc
 
-pub estimate-refused : (o : Outcome Envelope) (q : Outcome Program) (n u : ℕ) → estimateOf o q .verdict ≡ Refused n u
-    → (o ≡ bad n u) ⊎ (q ≡ bad n u)
-unfolding estimateOf estimated noEstimate verdictOf
-estimate-refused (bad m p) q n u h = inl cc
-estimate-refused (good e p) (bad m q) n u h = inr cc
-estimate-refused (good e p) (good g q) n u h = let z : _≡_ {A = ℕ} 0 1 = cc in absurd (never z)
+pub estimate-refused : (o : Outcome Papers) (n u : ℕ) → estimateOf o .verdict ≡ Refused n u → o ≡ bad n u
+unfolding estimateOf estimated noEstimate
+estimate-refused (good q p) n u h = let z : _≡_ {A = ℕ} 0 1 = cc in absurd (never z)
+estimate-refused (bad m p) n u h = cc

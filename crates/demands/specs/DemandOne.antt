@@ -53,7 +53,7 @@ pub record DemandOne (e : Envelope) (p : Program) (x : End) (s words marks store
   pub equalities : (r : ℕ) → After (checkEnvelope e) Refused (equalitiesRead (checkEnvelope e) r .verdict) []
   pub planning : After (checkEnvelope e) Refused (planOf (checkEnvelope e) .verdict) []
   pub planning-bytes : After (readEnvelope s) Refused (planOf (readEnvelope s) .verdict) []
-  pub estimating : After (checkProgram e p) Refused (estimateOf (checkEnvelope e) (checkProgram e p) .verdict) []
+  pub estimating : After (papersOf e p) Refused (estimateOf (papersOf e p) .verdict) []
   -- tables and marks: 10, 11; a column: 14; its values into a buffer: 11; a step by some values, as receiving has them: 15
   pub marks-judged : (k : ℕ) → By Refused (judgement (marksTests e words k)) (10 ∷ 11 ∷ [])
   pub column-judged : (a : Place) (k : ℕ) → By Refused (judgement (columnTests e a words k)) (10 ∷ 11 ∷ 14 ∷ [])

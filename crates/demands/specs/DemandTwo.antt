@@ -10,7 +10,7 @@
 use Rattle.demands.specs.Words.{ℕ, _+_, _≤_, _<_, _≡_, true, List, map, List·Memᴰ, _↔_, length, take, Every, filter, each, combinations, sum, Bytes, good, Taken, clausesOf, targetsOf, Envelope, Within, tidy, Fits}
 use Rattle.demands.specs.Words.{readEnvelope, checkEnvelope, envelopeBytes, column, PathBetween, edges, isPlace, legal, legalSteps, Row, meetsAll, targetRow, tablesOf, answerRows, answerWords, Step}
 use Rattle.demands.specs.Words.{stepsOf, readProgram, checkProgram, programBytes, Acceptable, tidyProgram, ProgramFits, Program, localProfile, plainCosts, assemblyAt, profileAfter, kindOf, linesOf, costsIn}
-use Rattle.demands.specs.Words.{estimateOf, Estimate, planOf, PlanKept, countIn, rowCount, answerKept, shaped, passes, openedIn, stepped, steppedAll, runMarks, runOutcome, rowOf, wordOf, keptAt, answerOutcome}
+use Rattle.demands.specs.Words.{papersOf, Papers, estimateOf, Estimate, planOf, PlanKept, countIn, rowCount, answerKept, shaped, passes, openedIn, stepped, steppedAll, runMarks, runOutcome, rowOf, wordOf, keptAt, answerOutcome}
 
 -- "R<A=B]S: R and S different, R.A and S.B on a path": along clauses, either way, from column to column or constant
 pub record OnPath (e : Envelope) (s : Step) : Type 0 where
@@ -39,8 +39,8 @@ pub record DemandTwo : Type 0 where
       → (checkProgram e p ≡ good r q) ↔ (Within e × Acceptable e p × (r ≡ tidyProgram p) × (q ≡ length (programBytes p)))
   pub program-legal : (e : Envelope) (p : Program) → Acceptable e p → Every (OnPath e) (stepsOf p)
   -- the estimate of a program that is taken, and the chosen program of every envelope that is taken
-  pub estimate : (e f : Envelope) (p g : Program) (u v : ℕ) → checkEnvelope e ≡ good f u → checkProgram e p ≡ good g v
-      → EstimateKept f g (estimateOf (checkEnvelope e) (checkProgram e p))
+  pub estimate : (e : Envelope) (p : Program) (q : Papers) (u : ℕ) → papersOf e p ≡ good q u
+      → EstimateKept (q .envelope) (q .program) (estimateOf (papersOf e p))
   pub plan-struct : (e f : Envelope) (u : ℕ) → checkEnvelope e ≡ good f u → PlanKept plainCosts f (planOf (checkEnvelope e))
   pub plan-bytes : (s : List ℕ) → Bytes s → (f : Envelope) (u : ℕ) → readEnvelope s ≡ good f u → PlanKept plainCosts f (planOf (readEnvelope s))
   -- the reduced tables: local operations, then every step; where that is taken

@@ -11,17 +11,13 @@ use Rattle.ground.specs.Outcome.Outcome.{good}
 use Rattle.ground.specs.declared.Verdict.the-variants.{Taken, Refused}
 use Rattle.ground.proofs.CollectingLaws.{Collecting, collecting-start, collecting-push}
 use Rattle.envelopes.specs.Rules.{Within, tidy}
-use Rattle.envelopes.specs.Envelope.{checkEnvelope, shownEnvelope}
 use Rattle.contents.specs.declared.envelope.Envelope.{Envelope}
-use Rattle.envelopes.specs.declared.reading.EnvelopeRead.{EnvelopeRead}
-use Rattle.envelopes.proofs.ReadingLaws.{read-refused, read-taken}
-use Rattle.envelopes.proofs.ExactEnvelope.{check-sound}
-use Rattle.papers.specs.Programs.{noStep, stepsOf, readProgram, programAgainst, programBytes, checkProgram, shownProgram, Acceptable}
+use Rattle.papers.specs.Programs.{noStep, stepsOf, Acceptable}
+use Rattle.papers.specs.Checks.{papersOf, shownPapers}
 use Rattle.paths.specs.declared.steps.Step.{Step}
 use Rattle.papers.specs.declared.programs.Program.{Program}
-use Rattle.papers.specs.declared.programs.ProgramRead.{ProgramRead}
-use Rattle.papers.proofs.ProgramCodeLaws.{program-taken, program-refused}
-use Rattle.papers.proofs.ExactPrograms.{program-bytes, program-exact}
+use Rattle.papers.specs.declared.checks.PapersRead.{PapersRead}
+use Rattle.papers.proofs.CheckLaws.{papers-taken, papers-refused, papers-sound}
 use Rattle.estimates.specs.Profile.{benefit, afterStep, localProfile}
 use Rattle.estimates.specs.Costs.{plainCosts, stepCost, assemblyAt}
 use Rattle.estimates.specs.Kind.{total}
@@ -130,41 +126,24 @@ line-is s b c x y f g = rw (f, g)
 
 -- ---- envelope and program are checked first
 
-module _ (e : Envelope) (f : Program) (c : EnvelopeRead) (g : c ≡ shownEnvelope (checkEnvelope e)) where
-  pub estimate-envelope : (x : Estimate) (m q : ℕ) → c .verdict ≡ Refused m q → x ≡ noEstimate m q
-      → x ≡ estimateOf (checkEnvelope e) (checkProgram e f)
+module _ (e : Envelope) (f : Program) (c : PapersRead) (g : c ≡ shownPapers (papersOf e f)) where
+  pub estimate-refused : (x : Estimate) (m q : ℕ) → c .verdict ≡ Refused m q → x ≡ noEstimate m q → x ≡ estimateOf (papersOf e f)
   unfolding estimateOf
-  estimate-envelope x m q v h = h ∙ rw (read-refused (checkEnvelope e) c m q g v)
+  estimate-refused x m q v h = h ∙ rw (papers-refused (papersOf e f) c m q g v)
 
   module _ (v : c .verdict ≡ Taken) where
-    taken : checkEnvelope e ≡ good (c .envelope) (nextOf (checkEnvelope e))
-    taken = read-taken (checkEnvelope e) c g v
+    taken : papersOf e f ≡ good (c .papers) (nextOf (papersOf e f))
+    taken = papers-taken (papersOf e f) c g v
 
-    pub taken-within : Within (c .envelope) × (tidy (c .envelope) ≡ c .envelope)
-    taken-within = check-sound e (c .envelope) (nextOf (checkEnvelope e)) taken .0
+    pub taken-good : Within (c .papers .envelope) × (tidy (c .papers .envelope) ≡ c .papers .envelope) × Acceptable (c .papers .envelope) (c .papers .program)
+    taken-good =
+        let q = papers-sound e f (c .papers) (nextOf (papersOf e f)) taken in
+        (q .within, q .tidied, q .acceptable)
 
-    module _ (d : ProgramRead) (j : d ≡ shownProgram (checkProgram e f)) where
-      pub estimate-program : (x : Estimate) (m q : ℕ) → d .verdict ≡ Refused m q → x ≡ noEstimate m q
-          → x ≡ estimateOf (checkEnvelope e) (checkProgram e f)
-      unfolding estimateOf
-      estimate-program x m q u h = h ∙ rw (taken, program-refused (checkProgram e f) d m q j u)
-
-      module _ (u : d .verdict ≡ Taken) where
-        found : checkProgram e f ≡ good (d .program) (nextOf (checkProgram e f))
-        found = program-taken (checkProgram e f) d j u
-
-        pub estimate-both : (x : Estimate) → x ≡ estimated plainCosts (c .envelope) (stepsOf (d .program)) (d .program .site)
-            → x ≡ estimateOf (checkEnvelope e) (checkProgram e f)
-        unfolding estimateOf
-        estimate-both x h = h ∙ sym (rw (taken, found))
-
-        against : programAgainst (c .envelope) (programBytes f) ≡ good (d .program) (nextOf (checkProgram e f))
-        unfolding checkProgram readProgram
-        against = sym (ap (λ (o : Outcome Envelope). next o (λ (y : Envelope) (_ : ℕ). programAgainst y (programBytes f))) taken) ∙ found
-
-        pub found-acceptable : Acceptable (c .envelope) (d .program)
-        found-acceptable =
-            program-exact (c .envelope) (taken-within .0) (programBytes f) (d .program) (nextOf (checkProgram e f)) (program-bytes f) .0 against .0 .0
+    pub estimate-taken : (x : Estimate) → x ≡ estimated plainCosts (c .papers .envelope) (stepsOf (c .papers .program)) (c .papers .program .site)
+        → x ≡ estimateOf (papersOf e f)
+    unfolding estimateOf
+    estimate-taken x h = h ∙ sym (rw taken)
 
 pub refused-is : (m q : ℕ) (z : Line) → z ≡ line noStep 0 0
     → _≡_ {A = Estimate} (record { verdict = Refused m q; count = 0; lines = replicate 156 z; assembly = 0; total = 0 }) (noEstimate m q)

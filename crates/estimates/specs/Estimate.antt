@@ -11,7 +11,7 @@ use Rattle.entries.specs.Places.{samePlace}
 use Rattle.contents.specs.declared.envelope.Envelope.{Envelope}
 use Rattle.papers.specs.Programs.{noStep, stepsOf}
 use Rattle.paths.specs.declared.steps.Step.{Step}
-use Rattle.papers.specs.declared.programs.Program.{Program}
+use Rattle.papers.specs.declared.checks.Papers.{Papers}
 use Rattle.estimates.specs.Profile.{benefit, afterStep, localProfile}
 use Rattle.estimates.specs.Costs.{plainCosts, stepCost, assemblyAt}
 use Rattle.estimates.specs.Kind.{Kind, afterAll, total}
@@ -66,7 +66,6 @@ unfoldable pub noEstimate : ℕ → ℕ → Estimate
 noEstimate n p =
     record { verdict = verdictOf {A = Envelope} (bad n p); count = 0; lines = replicate 156 (line noStep 0 0); assembly = 0; total = 0 }
 
-unfoldable pub estimateOf : Outcome Envelope → Outcome Program → Estimate
-estimateOf (bad n p) q = noEstimate n p
-estimateOf (good e p) (bad n q) = noEstimate n q
-estimateOf (good e p) (good f q) = estimated plainCosts e (stepsOf f) (f .site)
+unfoldable pub estimateOf : Outcome Papers → Estimate
+estimateOf (good q u) = estimated plainCosts (q .envelope) (stepsOf (q .program)) (q .program .site)
+estimateOf (bad n p) = noEstimate n p

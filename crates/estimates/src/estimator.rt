@@ -9,8 +9,8 @@ use papers::programs::Program;
 use paths::steps::Step;
 ghost use mathlib.Core.Path.{_≡_};
 ghost use Rattle.envelopes.specs.Rules.{Within, tidy};
-ghost use Rattle.envelopes.specs.Envelope.{checkEnvelope};
-ghost use Rattle.papers.specs.Programs.{stepsOf, checkProgram, Acceptable};
+ghost use Rattle.papers.specs.Programs.{stepsOf, Acceptable};
+ghost use Rattle.papers.specs.Checks.{papersOf};
 ghost use Rattle.estimates.specs.Profile.{benefit};
 ghost use Rattle.estimates.specs.Costs.{plainCosts, stepCost};
 ghost use Rattle.estimates.specs.Estimate.{line, estimated, noEstimate, estimateOf};
@@ -83,23 +83,17 @@ fn estimated_plainly(envelope: Envelope, program: Program) -> Estimate
 
 // What a program is expected to cost: the envelope, then the program, is checked first.
 pub fn estimate(envelope: Envelope, program: Program) -> Estimate
-    ensures { λ r. ⌜ r ≡ estimateOf (checkEnvelope envelope) (checkProgram envelope program) ⌝ }
+    ensures { λ r. ⌜ r ≡ estimateOf (papersOf envelope program) ⌝ }
 {
-    let read = envelopes::reading::check_envelope(envelope);
+    let read = papers::checks::check_papers(envelope, program);
     let verdict = read.verdict;
     match verdict {
         Verdict::Refused { number, position } => refused(number, position),
         Verdict::Taken => {
-            let checked = read.envelope;
-            let against = papers::programs::check_program(envelope, program);
-            let found = against.verdict;
-            match found {
-                Verdict::Refused { number, position } => refused(number, position),
-                Verdict::Taken => {
-                    let good = against.program;
-                    estimated_plainly(checked, good)
-                }
-            }
+            let papers = read.papers;
+            let checked = papers.envelope;
+            let good = papers.program;
+            estimated_plainly(checked, good)
         }
     }
 }

@@ -8,6 +8,7 @@ use Rattle.ground.specs.declared.Verdict.the-variants.{Taken, Refused}
 use Rattle.ground.proofs.OutcomeLaws.{taken-is, refused-is, next-good}
 use Rattle.contents.specs.Parts.{noEnvelope}
 use Rattle.envelopes.specs.Envelope.{checkEnvelope, shownEnvelope, envelopeBytes}
+use Rattle.envelopes.specs.Rules.{Within}
 use Rattle.contents.specs.declared.envelope.Envelope.{Envelope}
 use Rattle.envelopes.specs.declared.reading.EnvelopeRead.{EnvelopeRead}
 use Rattle.envelopes.proofs.ReadingLaws.{read-taken, read-refused}
@@ -64,27 +65,53 @@ module _ (e : Envelope) (p : Program) (c : EnvelopeRead) (g : c ≡ shownEnvelop
   unfolding papersOf
   papers-envelope m q z h k = k ∙ simp (read-refused (checkEnvelope e) c m q g h)
 
-  module _ (h : c .verdict ≡ Taken) (x : ProgramRead) (k : x ≡ shownProgram (checkProgram e p)) where
+  module _ (h : c .verdict ≡ Taken) where
     taken : checkEnvelope e ≡ good (c .envelope) (nextOf (checkEnvelope e))
     taken = read-taken (checkEnvelope e) c g h
 
-    against : checkProgram e p ≡ programAgainst (c .envelope) (programBytes p)
-    unfolding checkProgram readProgram
-    against = ap (λ (o : Outcome Envelope). next o (λ f _. programAgainst f (programBytes p))) taken
+    pub papers-within : Within (c .envelope)
+    papers-within = check-sound e (c .envelope) (nextOf (checkEnvelope e)) taken .0 .0
 
-    as-papers : papersOf e p ≡ next (checkProgram e p) (λ q at. good (record { envelope = c .envelope; program = q }) at)
-    unfolding papersOf
-    as-papers =
-        ap
-        (λ (o : Outcome Envelope).
-        next o (λ f _. next (programAgainst f (programBytes p)) (λ q at. good (record { envelope = f; program = q }) at)))
-        taken
-        ∙ ap (λ (o : Outcome Program). next o (λ q at. good (record { envelope = c .envelope; program = q }) at)) (sym against)
+    module _ (x : ProgramRead) (k : x ≡ shownProgram (programAgainst (c .envelope) (programBytes p))) where
+      as-papers : papersOf e p
+          ≡ next (programAgainst (c .envelope) (programBytes p)) (λ q at. good (record { envelope = c .envelope; program = q }) at)
+      unfolding papersOf
+      as-papers =
+          ap
+          (λ (o : Outcome Envelope).
+          next o (λ f _. next (programAgainst f (programBytes p)) (λ q at. good (record { envelope = f; program = q }) at)))
+          taken
 
-    pub papers-program : (m q : ℕ) (z : PapersRead) → x .verdict ≡ Refused m q → z ≡ shownPapers (bad m q) → z ≡ shownPapers (papersOf e p)
-    papers-program m q z v y = y ∙ simp (as-papers, program-refused (checkProgram e p) x m q k v)
+      pub papers-program : (m q : ℕ) (z : PapersRead) → x .verdict ≡ Refused m q → z ≡ shownPapers (bad m q) → z ≡ shownPapers (papersOf e p)
+      papers-program m q z v y = y ∙ simp (as-papers, program-refused (programAgainst (c .envelope) (programBytes p)) x m q k v)
 
-    pub papers-good : x .verdict ≡ Taken
-        → record { verdict = Taken; papers = record { envelope = c .envelope; program = x .program } } ≡ shownPapers (papersOf e p)
-    unfolding verdictOf valueOf
-    papers-good v = simp (as-papers, program-taken (checkProgram e p) x k v)
+      pub papers-good : x .verdict ≡ Taken
+          → record { verdict = Taken; papers = record { envelope = c .envelope; program = x .program } } ≡ shownPapers (papersOf e p)
+      unfolding verdictOf valueOf
+      papers-good v = simp (as-papers, program-taken (programAgainst (c .envelope) (programBytes p)) x k v)
+
+-- ---- the program alone: what the papers answer, without the envelope
+
+abbrev both : Envelope → Program → ℕ → Outcome Papers
+both f q at = good (record { envelope = f; program = q }) at
+
+abbrev second : Outcome Papers → ProgramRead
+second o = record { verdict = verdictOf o; program = valueOf noPapers o .program }
+
+with-envelope : (f : Envelope) (x : Outcome Program) → second (next x (both f)) ≡ shownProgram x
+unfolding verdictOf valueOf
+with-envelope f (good q v) = refl
+with-envelope f (bad n v) = refl
+
+alone : (o : Outcome Envelope) (read : Envelope → Outcome Program)
+    → second (next o (λ f _. next (read f) (both f))) ≡ shownProgram (next o (λ f _. read f))
+unfolding verdictOf valueOf
+alone (bad n u) read = refl
+alone (good f u) read = with-envelope f (read f)
+
+pub program-alone : (e : Envelope) (p : Program) (x : PapersRead) → x ≡ shownPapers (papersOf e p)
+    → record { verdict = x .verdict; program = x .papers .program } ≡ shownProgram (checkProgram e p)
+unfolding papersOf checkProgram readProgram
+program-alone e p x h =
+    ap (λ (y : PapersRead). record { verdict = y .verdict; program = y .papers .program }) h
+    ∙ alone (checkEnvelope e) (λ f. programAgainst f (programBytes p))

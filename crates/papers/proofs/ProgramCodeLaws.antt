@@ -31,6 +31,7 @@ use Rattle.envelopes.specs.declared.reading.EnvelopeRead.{EnvelopeRead}
 use Rattle.entries.proofs.PlaceLaws.{place-good, place-bad}
 use Rattle.envelopes.proofs.ReadingLaws.{read-taken, read-refused}
 use Rattle.envelopes.proofs.ExactEnvelope.{check-sound}
+use Rattle.envelopes.specs.Rules.{Within}
 use Rattle.paths.specs.Labels.{labelsOf, byLabels}
 use Rattle.paths.specs.Steps.{step, legalBy}
 use Rattle.papers.specs.Programs.{noStep, noProgram, programWith, SJP, stepAt, endedProgram, stepsFrom, stepsThen, programBy, programAgainst, readProgram, programBytes, checkProgram, programWritten, programWrittenIn, shownStep, shownProgram}
@@ -205,10 +206,14 @@ module _ (e : Envelope) (s : List ℕ) (c : EnvelopeRead) (g : c ≡ shownEnvelo
 
 -- ---- a struct, checked and written
 
-pub check-is : (e : Envelope) (a : Program) (l : List ℕ) (x : ProgramRead) → l ≡ programBytes a → x ≡ shownProgram (readProgram e l)
-    → x ≡ shownProgram (checkProgram e a)
-unfolding checkProgram
-check-is e a l x h y = y ∙ ap (λ (b : List ℕ). shownProgram (readProgram e b)) h
+pub against-is : (e : Envelope) → Within e → (a : Program) (l : Labels) (b : List ℕ) (x : ProgramRead)
+    → l ≡ record { of = labelsOf e } → b ≡ programBytes a → x ≡ shownProgram (programBy (legalBy (byLabels (l .of) e) e) e b)
+    → x ≡ shownProgram (programAgainst e (programBytes a))
+against-is e w a l b x f h y =
+    y
+    ∙ ap (λ (k : Labels). shownProgram (programBy (legalBy (byLabels (k .of) e) e) e b)) f
+    ∙ ap (λ (o : List ℕ). shownProgram (programBy (legalBy (byLabels (labelsOf e) e) e) e o)) h
+    ∙ ap shownProgram (program-by-labels e w (programBytes a))
 
 module _ (e : Envelope) (a : Program) (out : List ℕ) (c : ProgramRead) (g : c ≡ shownProgram (checkProgram e a)) where
   pub write-refused : (m q : ℕ) → c .verdict ≡ Refused m q → (w.Refused m q ≡ programWritten e a out) × (out ≡ programWrittenIn e a out)

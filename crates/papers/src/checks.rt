@@ -39,12 +39,12 @@ pub fn check_papers(envelope: Envelope, program: Program) -> PapersRead
     match verdict {
         Verdict::Refused { number, position } => refused_papers(number, position),
         Verdict::Taken => {
-            let against = crate::programs::check_program(envelope, program);
+            let envelope = read.envelope;
+            let against = crate::programs::program_against(envelope, program);
             let found = against.verdict;
             match found {
                 Verdict::Refused { number, position } => refused_papers(number, position),
                 Verdict::Taken => {
-                    let envelope = read.envelope;
                     let program = against.program;
                     PapersRead {
                         verdict: Verdict::Taken,

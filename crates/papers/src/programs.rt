@@ -11,6 +11,7 @@ use paths::steps::Step;
 ghost use mathlib.Core.Path.{_≡_};
 ghost use Prim.Native.Nat.{_≤_};
 ghost use Rattle.ground.specs.Outcome.Outcome.{bad};
+ghost use Rattle.envelopes.specs.Rules.{Within};
 ghost use Rattle.paths.specs.Labels.{byLabels};
 ghost use Rattle.paths.specs.Steps.{legalBy};
 ghost use Rattle.papers.specs.Programs.{
@@ -20,6 +21,8 @@ ghost use Rattle.papers.specs.Programs.{
   stepsFrom,
   stepsThen,
   programBy,
+  programAgainst,
+  programBytes,
   readProgram,
   checkProgram,
   programWritten,
@@ -193,13 +196,29 @@ pub fn read_program(envelope: Envelope, s: &[u8]) -> ProgramRead
     }
 }
 
+// A program that is a struct, as its bytes would be, against an envelope that was taken.
+pub(crate) fn program_against(envelope: Envelope, program: Program) -> ProgramRead
+    requires { ⌜ Within envelope ⌝ }
+    ensures { λ r. ⌜ r ≡ shownProgram (programAgainst envelope (programBytes program)) ⌝ }
+{
+    let labels = paths::labels::labels_of(envelope);
+    let mut bytes = [0u8; 631];
+    let n = crate::puts::put_program(&mut bytes, program);
+    read_program_by(&bytes[..n], envelope, labels)
+}
+
 // A program that is a struct, checked as its bytes would be; what comes back is what those bytes read as.
 pub fn check_program(envelope: Envelope, program: Program) -> ProgramRead
     ensures { λ r. ⌜ r ≡ shownProgram (checkProgram envelope program) ⌝ }
 {
-    let mut bytes = [0u8; 631];
-    let n = crate::puts::put_program(&mut bytes, program);
-    read_program(envelope, &bytes[..n])
+    let read = crate::checks::check_papers(envelope, program);
+    let verdict = read.verdict;
+    let papers = read.papers;
+    let program = papers.program;
+    ProgramRead {
+        verdict: verdict,
+        program: program,
+    }
 }
 
 // The bytes of a program to the front of a lent buffer, once envelope and program were checked; 11 where they do not fit.

@@ -1,4 +1,4 @@
-use Rattle.papers.proofs.CheckLaws.{papers-envelope, papers-program, papers-good}
+use Rattle.papers.proofs.CheckLaws.{papers-envelope, papers-within, papers-program, papers-good}
 use borrow.Author.Needs.{needs}
 use Rattle.papers.proofs.checks.check_papers.Statement.{statement}
 use Rattle.papers.proofs.checks.check_papers.Tie as tie
@@ -6,7 +6,7 @@ use Rattle.papers.proofs.checks.check_papers.Reads as reads
 use Rattle.papers.proofs.checks.check_papers.Lts as lts
 use Rattle.envelopes.proofs.reading.check_envelope.Reads as check-envelope-reads
 use Rattle.papers.proofs.checks.refused_papers.Reads as refused-papers-reads
-use Rattle.papers.proofs.programs.check_program.Reads as check-program-reads
+use Rattle.papers.proofs.programs.program_against.Reads as program-against-reads
 
 -- src/checks.rt:36:9
 check-envelope-requires : tie.Need-check-envelope-requires
@@ -25,8 +25,8 @@ enum-told : tie.Need-enum-told
 enum-told c = search needs
 
 -- src/checks.rt:41:17
-check-program-requires : tie.Need-check-program-requires
-check-program-requires c κs = search needs
+program-against-requires : tie.Need-program-against-requires
+program-against-requires c κs = search (papers-within, needs)
 
 -- src/checks.rt:44:36
 enum-known-found : tie.Need-enum-known-found
@@ -60,7 +60,7 @@ check-papers-spec =
     enum-known-verdict
     refused-papers-requires
     enum-told
-    check-program-requires
+    program-against-requires
     enum-known-found
     refused-papers-requires-2
     enum-told-2
