@@ -6,7 +6,7 @@ use Prim.Native.Nat.{ℕ, _+_, _≤_, _<_}
 use native.Mathlib.Omega.{arith}
 use lib.ListN.{getD, take, drop, set, replicate}
 use lib.Seq.{append-snoc}
-use Rattle.ground.specs.Outcome.{Outcome, next, nextOf, verdictOf}
+use Rattle.ground.specs.Outcome.{nextOf}
 use Rattle.ground.specs.Outcome.Outcome.{good}
 use Rattle.ground.specs.declared.Verdict.the-variants.{Taken, Refused}
 use Rattle.ground.proofs.CollectingLaws.{Collecting, collecting-start, collecting-push}
@@ -96,7 +96,7 @@ module _ (k : Costs) (e : Envelope) (local : Profile) (w : Ready k e local) wher
 
     estimating-done : n ≤ i → (site x : ℕ) → x ≡ assemblyAt k e p site
         → _≡_ {A = Estimate} (record { verdict = Taken; count = n; lines = lines; assembly = x; total = spent + x }) (estimated k e ss site)
-    unfolding estimated verdictOf linesOf
+    unfolding estimated linesOf
     estimating-done h site x g =
         let m : linesOf k e (localProfile e) ss ≡ a .done =
         a .told ∙ rw (none-left k e local w steps n i p spent (a .spending) h) (append-nil (a .done)) in
@@ -147,5 +147,5 @@ module _ (e : Envelope) (f : Program) (c : PapersRead) (g : c ≡ shownPapers (p
 
 pub refused-is : (m q : ℕ) (z : Line) → z ≡ line noStep 0 0
     → _≡_ {A = Estimate} (record { verdict = Refused m q; count = 0; lines = replicate 156 z; assembly = 0; total = 0 }) (noEstimate m q)
-unfolding noEstimate verdictOf
+unfolding noEstimate
 refused-is m q z h = rw h

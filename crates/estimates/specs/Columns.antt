@@ -4,6 +4,7 @@ use mathlib.Core.List.{map}
 use lib.ListN.{getD}
 use Rattle.ground.specs.Lists.{sum}
 use Rattle.entries.specs.Relations.{noColumn, pastRelation}
+use Rattle.entries.specs.Places.{place}
 use Rattle.contents.specs.Parts.{relationsOf, sizesOf}
 use Rattle.contents.specs.Kept.{keptColumns}
 use Rattle.entries.specs.declared.places.Place.{Place}
@@ -19,4 +20,4 @@ unfoldable pub domainSize : Envelope → Place → ℕ
 domainSize e a = getD (sizesOf e) (columnOf e a .domain) 0
 
 unfoldable pub widthOf : Envelope → ℕ → ℕ
-widthOf e r = sum (map (λ c. columnOf e (record { relation = r; column = c }) .width) (keptColumns e r))
+widthOf e r = sum (map (λ c. columnOf e (place r c) .width) (keptColumns e r))

@@ -5,8 +5,9 @@ use mathlib.Core.List.{List, [], _∷_, map}
 use Prim.Native.Nat.{ℕ}
 use lib.ListN.{length, replicate}
 use Rattle.ground.specs.Lists.{padded}
-use Rattle.ground.specs.Outcome.{Outcome, verdictOf}
+use Rattle.ground.specs.Outcome.{Outcome}
 use Rattle.ground.specs.Outcome.Outcome.{good, bad}
+use Rattle.ground.specs.declared.Verdict.the-variants.{Taken, Refused}
 use Rattle.entries.specs.Places.{samePlace}
 use Rattle.contents.specs.declared.envelope.Envelope.{Envelope}
 use Rattle.papers.specs.Programs.{noStep, stepsOf}
@@ -52,7 +53,7 @@ unfoldable pub estimated : Costs → Envelope → List Step → ℕ → Estimate
 estimated k e ss site =
     let p = localProfile e in
     record {
-      verdict = verdictOf (good e 0);
+      verdict = Taken;
       count = length ss;
       lines = padded 156 (line noStep 0 0) (linesOf k e p ss);
       assembly = assemblyAt k e (afterAll (kindOf k e) p ss) site;
@@ -64,7 +65,7 @@ estimated k e ss site =
 -- a refusal, with nothing beside it
 unfoldable pub noEstimate : ℕ → ℕ → Estimate
 noEstimate n p =
-    record { verdict = verdictOf {A = Envelope} (bad n p); count = 0; lines = replicate 156 (line noStep 0 0); assembly = 0; total = 0 }
+    record { verdict = Refused n p; count = 0; lines = replicate 156 (line noStep 0 0); assembly = 0; total = 0 }
 
 unfoldable pub estimateOf : Outcome Papers → Estimate
 estimateOf (good q u) = estimated plainCosts (q .envelope) (stepsOf (q .program)) (q .program .site)

@@ -9,6 +9,7 @@ use lib.Dec.{eqb}
 use Rattle.ground.specs.Tests.{pick}
 use Rattle.ground.specs.Lists.{below}
 use Rattle.entries.specs.Relations.{pastRelation}
+use Rattle.entries.specs.Places.{place}
 use Rattle.contents.specs.Parts.{relationsOf, relationCount}
 use Rattle.entries.specs.declared.places.Place.{Place}
 use Rattle.contents.specs.declared.envelope.Envelope.{Envelope}
@@ -36,7 +37,7 @@ unfoldable pub given : Envelope → Profile
 given e =
     record {
       rows = map (λ r. getD (relationsOf e) r pastRelation .rows) (below 8);
-      counts = map (λ k. columnOf e (record { relation = k / 8; column = k % 8 }) .distinct) (below 64);
+      counts = map (λ k. columnOf e (place (k / 8) (k % 8)) .distinct) (below 64);
       widths = map (widthOf e) (below 8);
     }
 
@@ -79,7 +80,7 @@ benefit e p s = widthAt p (s .left .relation) * (rowsOf p (s .left .relation) - 
 
 abbrev pub afterSelections : Profile → ℕ → List Selected → Profile
 afterSelections p r [] = p
-afterSelections p r (s ∷ l) = afterSelections (afterSelection p (record { relation = r; column = s .column })) r l
+afterSelections p r (s ∷ l) = afterSelections (afterSelection p (place r (s .column))) r l
 
 abbrev pub afterRelations : Envelope → Profile → List ℕ → Profile
 afterRelations e p [] = p

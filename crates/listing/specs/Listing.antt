@@ -2,11 +2,11 @@
 -- total and local-only total. A refused envelope prints one line alone, as `refused 1 0`: number, then position."
 use mathlib.Core.List.{List, _++_}
 use Prim.Native.Nat.{ℕ}
-use lib.ListN.{take}
 use Rattle.ground.specs.Lists.{each}
 use Rattle.ground.specs.declared.Verdict.the-variants.{Taken, Refused}
 use Rattle.paths.specs.declared.steps.Step.{Step}
 use Rattle.estimates.specs.declared.lines.Line.{Line}
+use Rattle.planner.specs.Promise.{linesIn}
 use Rattle.planner.specs.declared.plans.Plan.{Plan}
 use Rattle.listing.specs.Text.{text, decimal, labelled}
 
@@ -28,7 +28,7 @@ unfoldable pub refusedLine : ℕ → ℕ → List ℕ
 refusedLine number position = labelled "refused " number ++ labelled " " position ++ text "\n"
 
 unfoldable pub planLines : Plan → List ℕ
-planLines p = heading ++ each stepLine (take (p .count) (p .lines)) ++ lastLine p
+planLines p = heading ++ each stepLine (linesIn p) ++ lastLine p
 
 unfoldable pub listing : Plan → List ℕ
 listing p = elim (p .verdict) [ Taken ↦ planLines p | Refused n q ↦ refusedLine n q ]

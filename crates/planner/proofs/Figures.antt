@@ -9,7 +9,6 @@ use Rattle.ground.specs.Figures.{Figure, figure, Hold}
 use Rattle.ground.specs.Lists.{each, padded, numbersFrom}
 use Rattle.ground.specs.Searching.{firstFrom}
 use Rattle.ground.specs.Rising.{insert, rising}
-use Rattle.ground.specs.Outcome.{verdictOf}
 use Rattle.entries.specs.Relations.{relationWith}
 use Rattle.entries.specs.Places.{place, samePlace}
 use Rattle.entries.specs.Clauses.{clause, domainOf}
@@ -96,5 +95,5 @@ figures =
     ∷ []
 
 pub figures-hold : Hold figures
-unfolding padded numbersFrom firstFrom insert rising verdictOf samePlace domainOf sizesOf relationsOf clausesOf targetsOf columnsIn withVersion withSizes withRelations withClauses withTargets siteOf isAt holds names kept keptColumns edges onPath places isPlace legalBy legalSteps constantsOf selectionsBy over Y columnOf domainSize widthOf given shrunk afterSelection rowsAfter countAfter afterStep benefit localProfile plainCosts priced stepCost assemblyAt sameStep siteFor greedySteps dropsAt afterDrops planned linesOf estimated planFor
+unfolding padded numbersFrom firstFrom insert rising samePlace domainOf sizesOf relationsOf clausesOf targetsOf columnsIn withVersion withSizes withRelations withClauses withTargets siteOf isAt holds names kept keptColumns edges onPath places isPlace legalBy legalSteps constantsOf selectionsBy over Y columnOf domainSize widthOf given shrunk afterSelection rowsAfter countAfter afterStep benefit localProfile plainCosts priced stepCost assemblyAt sameStep siteFor greedySteps dropsAt afterDrops planned linesOf estimated planFor
 figures-hold = refl

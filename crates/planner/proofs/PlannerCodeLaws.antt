@@ -7,7 +7,7 @@ use native.Mathlib.Omega.{arith}
 use borrow.Author.Tests.{lt-ltb, le-ltb}
 use lib.ListN.{length, getD, replicate}
 use Rattle.ground.specs.Lists.{filter, below}
-use Rattle.ground.specs.Outcome.{Outcome, nextOf, verdictOf}
+use Rattle.ground.specs.Outcome.{Outcome, nextOf}
 use Rattle.ground.specs.declared.Verdict.the-variants.{Taken, Refused}
 use Rattle.ground.proofs.ListLaws.{filter-from}
 use Rattle.ground.proofs.EveryLaws.{every-index}
@@ -127,7 +127,7 @@ module _ (k : Costs) (e : Envelope) (local : Profile) (w : Ready k e local) wher
           local = alone;
         })
         (planFor k e)
-    unfolding planFor estimated verdictOf
+    unfolding planFor estimated
     plan-is x v home alone a b =
         rw (v, u, with-steps e (planned k e .site) (planned k e .steps), b, a, w .local)
 
@@ -138,7 +138,7 @@ plain-plan e k f x g = g ∙ rw f
 
 pub no-plan-is : (m q : ℕ) (z : Line) → z ≡ line noStep 0 0
     → _≡_ {A = Plan} (record { verdict = Refused m q; site = 0; count = 0; lines = replicate 156 z; assembly = 0; total = 0; local = 0 }) (noPlan m q)
-unfolding noPlan verdictOf
+unfolding noPlan
 no-plan-is m q z h = rw h
 
 module _ (o : Outcome Envelope) (c : EnvelopeRead) (g : c ≡ shownEnvelope o) (x : Plan) where

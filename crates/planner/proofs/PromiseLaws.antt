@@ -13,7 +13,6 @@ use borrow.Author.Tests.{lt-ltb, le-ltb}
 use lib.ListN.{length, getD}
 use Rattle.ground.specs.Lists.{Every, filter, below}
 use Rattle.ground.specs.Order.{Ordered}
-use Rattle.ground.specs.Outcome.{verdictOf}
 use Rattle.ground.specs.Outcome.Outcome.{good}
 use Rattle.ground.proofs.CountLaws.{split}
 use Rattle.ground.proofs.ListLaws.{filter-mem, filter-from}
@@ -196,7 +195,7 @@ module _ (k : Costs) (e : Envelope) (w : Within e) where
   steps-are = ap (map (λ (l : Line). l .step)) (plan-lines k e) ∙ lines-steps k e (localProfile e) (planned k e .steps)
 
   plan-kept : PlanKept k e (planFor k e)
-  unfolding planFor estimated verdictOf
+  unfolding planFor estimated
   plan-kept =
       record {
         taken = refl;

@@ -4,8 +4,9 @@ use mathlib.Core.List.{List}
 use Prim.Native.Nat.{ℕ}
 use lib.ListN.{length, replicate}
 use Rattle.ground.specs.Lists.{filter, below}
-use Rattle.ground.specs.Outcome.{Outcome, verdictOf}
+use Rattle.ground.specs.Outcome.{Outcome}
 use Rattle.ground.specs.Outcome.Outcome.{good, bad}
+use Rattle.ground.specs.declared.Verdict.the-variants.{Refused}
 use Rattle.contents.specs.Sites.{isAt, holds}
 use Rattle.contents.specs.declared.envelope.Envelope.{Envelope}
 use Rattle.paths.specs.Steps.{legalSteps}
@@ -65,7 +66,7 @@ planFor k e =
 unfoldable pub noPlan : ℕ → ℕ → Plan
 noPlan n p =
     record {
-      verdict = verdictOf {A = Envelope} (bad n p);
+      verdict = Refused n p;
       site = 0;
       count = 0;
       lines = replicate 156 (line noStep 0 0);

@@ -21,7 +21,7 @@ use Rattle.papers.specs.Programs.{noStep}
 use Rattle.estimates.specs.Profile.{localProfile}
 use Rattle.estimates.specs.Costs.{assemblyAt}
 use Rattle.estimates.specs.Kind.{Kind, afterAll, costs, total}
-use Rattle.estimates.specs.Estimate.{kindOf, linesOf}
+use Rattle.estimates.specs.Estimate.{kindOf, linesOf, costsIn}
 use Rattle.estimates.specs.declared.costs.Costs.{Costs}
 use Rattle.estimates.specs.declared.lines.Line.{Line}
 use Rattle.planner.specs.Choice.{Handed, gain, stepsAt}
@@ -126,7 +126,7 @@ pub record PlanKept (k : Costs) (e : Envelope) (x : Plan) : Type 0 where
   pub once : Once (stepsIn x)
   pub held : holds e (x .site) ≡ true
   pub assembly : x .assembly ≡ assemblyAt k e (afterAll (kindOf k e) (localProfile e) (stepsIn x)) (x .site)
-  pub total : x .total ≡ sum (map (λ (l : Line). l .cost) (linesIn x)) + x .assembly
+  pub total : x .total ≡ sum (costsIn (linesIn x)) + x .assembly
   pub local : x .local ≡ assemblyAt k e (localProfile e) (siteFor k e (localProfile e))
   pub most : x .total ≤ x .local
   pub less : (stepsIn x ≡ [] → ⊥) → x .total < x .local
