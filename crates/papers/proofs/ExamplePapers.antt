@@ -23,13 +23,9 @@ use Rattle.papers.specs.Programs.{programWith, readProgram, checkProgram
 
 -- ---- how an example is written
 
-pub record Example : Type 0 where
-  pub got : List ℕ
-  pub want : List ℕ
-
 infix 70 _gives_
-abbrev pub _gives_ : List ℕ → List ℕ → Example
-a gives b = record { got = a; want = b }
+abbrev pub _gives_ : List ℕ → List ℕ → Figure
+a gives b = figure a b
 
 -- an outcome as numbers: 0 and the position past it, or the refusal's number and position
 abbrev pub seen : {A : Type 0} → Outcome A → List ℕ
@@ -48,14 +44,14 @@ put i v s = set s i v
 
 -- ---- the papers
 
-abbrev pub sel : ℕ → ℕ → ℕ → Clause
-sel r c v = clause (Selection (place r c) v)
+abbrev pub selection : ℕ → ℕ → ℕ → Clause
+selection r c v = clause (Selection (place r c) v)
 
 abbrev pub join : ℕ → ℕ → ℕ → ℕ → Clause
 join r c s d = clause (Join (place r c) (place s d))
 
-abbrev pub col : ℕ → ℕ → ℕ → Column
-col d w n = record { domain = d; width = w; distinct = n }
+abbrev pub columnWith : ℕ → ℕ → ℕ → Column
+columnWith d w n = record { domain = d; width = w; distinct = n }
 
 -- domains of 10 and 20; relation 0 at site 1 with 5 rows and a column of each domain, relation 1 at site 2 with 5 rows
 -- and a column of the first; each line with the position of its first byte
@@ -76,7 +72,7 @@ asks sizes relations clauses targets =
     withTargets targets (withClauses clauses (withRelations relations (withSizes sizes (withVersion 1 noEnvelope))))
 
 abbrev pub two : List Relation
-two = relationWith 1 2 5 (col 0 1 5 ∷ col 1 2 3 ∷ []) ∷ relationWith 2 1 5 (col 0 4 2 ∷ []) ∷ []
+two = relationWith 1 2 5 (columnWith 0 1 5 ∷ columnWith 1 2 3 ∷ []) ∷ relationWith 2 1 5 (columnWith 0 4 2 ∷ []) ∷ []
 
 abbrev pub smallAsked : Envelope
 smallAsked = asks (10 ∷ 20 ∷ []) two (join 0 0 1 0 ∷ []) (place 0 1 ∷ [])
@@ -84,8 +80,8 @@ smallAsked = asks (10 ∷ 20 ∷ []) two (join 0 0 1 0 ∷ []) (place 0 1 ∷ []
 -- the longest envelope: every count and every number at its upper limit
 abbrev pub largest : Envelope
 largest =
-    asks (replicate 16 16777215) (replicate 8 (relationWith 7 8 1000000 (replicate 8 (col 15 255 1000000))))
-    (map (λ (r : ℕ). sel r 7 4294967295) (below 8) ++ replicate 4 (sel 0 0 4294967295)) (replicate 16 (place 7 7))
+    asks (replicate 16 16777215) (replicate 8 (relationWith 7 8 1000000 (replicate 8 (columnWith 15 255 1000000))))
+    (map (λ (r : ℕ). selection r 7 4294967295) (below 8) ++ replicate 4 (selection 0 0 4294967295)) (replicate 16 (place 7 7))
 
 -- the two legal steps of the small one; a program at site 1
 abbrev pub there : List ℕ
@@ -108,7 +104,7 @@ runs s = seen (readProgram smallAsked s)
 
 -- ---- 1: ends inside a field: start of that field
 
-abbrev pub ends : List Example
+abbrev pub ends : List Figure
 ends =
     reads small gives taken 54
     ∷ reads [] gives refused 1 0
@@ -124,7 +120,7 @@ ends =
 
 -- ---- 2, 3: mark; version: start
 
-abbrev pub heads : List Example
+abbrev pub heads : List Figure
 heads =
     reads (put 2 110 small) gives refused 2 0
     ∷ reads (67 ∷ 80 ∷ 88 ∷ []) gives refused 2 0
@@ -140,7 +136,7 @@ heads =
 
 -- ---- 4: a number beyond its limit or naming nothing: start
 
-abbrev pub limits : List Example
+abbrev pub limits : List Figure
 limits =
     -- domains 1 to 16, each of size 1 to 16,777,215
     each (λ v. reads (put 5 v small)) (0 ∷ 17 ∷ 255 ∷ []) gives repeated 3 (refused 4 5)
@@ -195,7 +191,7 @@ limits =
 
 -- ---- 5 to 9
 
-abbrev pub rules : List Example
+abbrev pub rules : List Figure
 rules =
     -- 5, 6: join of two domains, also inside a relation; of a column with itself: start of clause
     reads (put 48 1 small) gives refused 5 46
@@ -237,12 +233,12 @@ stuffed v ds rs cs ts =
       «relation_count» = rs;
       relations = two ++ replicate 6 (relationWith 9 9 9 []);
       «clause_count» = cs;
-      clauses = join 0 0 1 0 ∷ replicate 11 (sel 9 9 9);
+      clauses = join 0 0 1 0 ∷ replicate 11 (selection 9 9 9);
       «target_count» = ts;
       targets = place 0 1 ∷ replicate 15 (place 9 9);
     }
 
-abbrev pub structs : List Example
+abbrev pub structs : List Figure
 structs =
     seen (checkEnvelope (stuffed 1 2 2 1 1)) gives taken 54
     ∷ envelopeBytes (stuffed 1 2 2 1 1) gives small

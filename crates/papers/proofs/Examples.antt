@@ -1,9 +1,10 @@
 -- Worked examples of the definitions, computed: the papers of ExamplePapers, what clauses imply, and the answers of the
 -- same day.
 use mathlib.Core.Path.{_≡_, refl}
-use mathlib.Core.List.{List, [], _∷_, _++_, map}
+use mathlib.Core.List.{List, [], _∷_, _++_}
 use Prim.Native.Nat.{ℕ}
 use lib.ListN.{replicate}
+use Rattle.ground.specs.Figures.{Figure, Hold}
 use Rattle.ground.specs.Lists.{each, filter, below, numbersFrom, padded}
 use Rattle.ground.specs.Outcome.{numbered}
 use Rattle.ground.specs.Outcome.Outcome.{good}
@@ -30,7 +31,7 @@ use Rattle.paths.specs.Meaning.{rowsIn, tablesIn, tablesOf, meetsAll, answerOn,
 use Rattle.paths.specs.declared.steps.Step.{Step}
 use Rattle.paths.specs.declared.implied.Selected.{Selected}
 use Rattle.paths.specs.declared.implied.Equal.{Equal}
-use Rattle.papers.proofs.ExamplePapers.{Example, _gives_, seen, taken, sel, join, col, small, asks, two, smallAsked, largest, there, back, program, ends, heads, limits, rules, stuffed, structs}
+use Rattle.papers.proofs.ExamplePapers.{_gives_, seen, taken, selection, join, columnWith, small, asks, two, smallAsked, largest, there, back, program, ends, heads, limits, rules, stuffed, structs}
 
 -- ---- paths: legal steps, implied clauses, kept columns
 
@@ -49,14 +50,14 @@ with clauses = asks (10 ∷ 20 ∷ []) two clauses (place 0 1 ∷ place 1 0 ∷ 
 
 -- R and S of three columns each, all of one domain
 abbrev wide : List Clause → Envelope
-wide clauses = asks (10 ∷ []) (replicate 2 (relationWith 0 3 5 (replicate 3 (col 0 1 5)))) clauses (place 0 0 ∷ place 1 0 ∷ [])
+wide clauses = asks (10 ∷ []) (replicate 2 (relationWith 0 3 5 (replicate 3 (columnWith 0 1 5)))) clauses (place 0 0 ∷ place 1 0 ∷ [])
 
-abbrev paths : List Example
+abbrev paths : List Figure
 paths =
     -- through a constant: 5 and 5 in one domain; in two it is two nodes; 5 and 6 are two nodes
-    legals (with (sel 0 0 5 ∷ sel 1 0 5 ∷ [])) gives (there ++ back)
-    ∷ legals (with (sel 0 1 5 ∷ sel 1 0 5 ∷ [])) gives []
-    ∷ legals (with (sel 0 0 5 ∷ sel 1 0 6 ∷ [])) gives []
+    legals (with (selection 0 0 5 ∷ selection 1 0 5 ∷ [])) gives (there ++ back)
+    ∷ legals (with (selection 0 1 5 ∷ selection 1 0 5 ∷ [])) gives []
+    ∷ legals (with (selection 0 0 5 ∷ selection 1 0 6 ∷ [])) gives []
     ∷ legals (with []) gives []
     -- not only the written clauses: R.0 = S.1 and S.1 = R.2 make R.0 = R.2, by a path that leaves R
     ∷ legals (wide (join 0 0 1 1 ∷ join 1 1 0 2 ∷ []))
@@ -64,16 +65,16 @@ paths =
     ∷ equalities (wide (join 0 0 1 1 ∷ join 1 1 0 2 ∷ [])) 0 gives (0 ∷ 2 ∷ [])
     ∷ equalities (wide (join 0 0 1 1 ∷ join 1 1 0 2 ∷ [])) 1 gives []
     -- within a relation through a constant; all three of a class
-    ∷ equalities (wide (sel 0 2 5 ∷ sel 0 1 5 ∷ [])) 0 gives (1 ∷ 2 ∷ [])
+    ∷ equalities (wide (selection 0 2 5 ∷ selection 0 1 5 ∷ [])) 0 gives (1 ∷ 2 ∷ [])
     ∷ equalities (wide (join 0 2 0 0 ∷ join 0 1 0 2 ∷ [])) 0 gives (0 ∷ 1 ∷ 0 ∷ 2 ∷ 1 ∷ 2 ∷ [])
     -- two constants in one class: both, for every column of it, each once, by value
-    ∷ selections (wide (sel 0 1 6 ∷ sel 0 1 5 ∷ sel 1 2 6 ∷ join 0 1 0 0 ∷ [])) 0 gives (0 ∷ 5 ∷ 0 ∷ 6 ∷ 1 ∷ 5 ∷ 1 ∷ 6 ∷ [])
-    ∷ selections (wide (sel 0 1 6 ∷ sel 0 1 5 ∷ sel 1 2 6 ∷ join 0 1 0 0 ∷ [])) 1 gives (2 ∷ 5 ∷ 2 ∷ 6 ∷ [])
-    ∷ selections (wide (sel 0 1 4294967295 ∷ sel 0 1 0 ∷ [])) 0 gives (1 ∷ 0 ∷ 1 ∷ 4294967295 ∷ [])
-    ∷ selections (wide (sel 0 1 6 ∷ [])) 1 gives []
-    ∷ selections (wide (sel 0 1 6 ∷ [])) 2 gives []
+    ∷ selections (wide (selection 0 1 6 ∷ selection 0 1 5 ∷ selection 1 2 6 ∷ join 0 1 0 0 ∷ [])) 0 gives (0 ∷ 5 ∷ 0 ∷ 6 ∷ 1 ∷ 5 ∷ 1 ∷ 6 ∷ [])
+    ∷ selections (wide (selection 0 1 6 ∷ selection 0 1 5 ∷ selection 1 2 6 ∷ join 0 1 0 0 ∷ [])) 1 gives (2 ∷ 5 ∷ 2 ∷ 6 ∷ [])
+    ∷ selections (wide (selection 0 1 4294967295 ∷ selection 0 1 0 ∷ [])) 0 gives (1 ∷ 0 ∷ 1 ∷ 4294967295 ∷ [])
+    ∷ selections (wide (selection 0 1 6 ∷ [])) 1 gives []
+    ∷ selections (wide (selection 0 1 6 ∷ [])) 2 gives []
     -- kept columns: those in a clause or target
-    ∷ each (keptColumns (wide (join 0 2 1 2 ∷ sel 1 1 7 ∷ []))) (0 ∷ 1 ∷ 2 ∷ []) gives (0 ∷ 2 ∷ 0 ∷ 1 ∷ 2 ∷ [])
+    ∷ each (keptColumns (wide (join 0 2 1 2 ∷ selection 1 1 7 ∷ []))) (0 ∷ 1 ∷ 2 ∷ []) gives (0 ∷ 2 ∷ 0 ∷ 1 ∷ 2 ∷ [])
     ∷ filter (holds (with [])) (below 9) gives (1 ∷ 2 ∷ [])
     ∷ []
 
@@ -82,14 +83,14 @@ paths =
 abbrev days : List Clause → List Place → Envelope
 days =
     asks (100 ∷ 100 ∷ 100 ∷ [])
-    (relationWith 0 2 3 (col 0 1 3 ∷ col 1 1 2 ∷ []) ∷ relationWith 1 3 4 (col 0 1 3 ∷ col 1 1 2 ∷ col 2 1 3 ∷ []) ∷ [])
+    (relationWith 0 2 3 (columnWith 0 1 3 ∷ columnWith 1 1 2 ∷ []) ∷ relationWith 1 3 4 (columnWith 0 1 3 ∷ columnWith 1 1 2 ∷ columnWith 2 1 3 ∷ []) ∷ [])
 
 abbrev sheet : List ℕ
 sheet =
     3 ∷ 4 ∷ 11 ∷ 20 ∷ 12 ∷ 20 ∷ 13 ∷ 21
     ∷ 11 ∷ 20 ∷ 5 ∷ 12 ∷ 20 ∷ 7 ∷ 12 ∷ 20 ∷ 7 ∷ 14 ∷ 22 ∷ 3 ∷ []
 
-abbrev answers : List Example
+abbrev answers : List Figure
 answers =
     answerWords (days (join 0 0 1 0 ∷ []) (place 0 0 ∷ place 1 2 ∷ [])) sheet gives (11 ∷ 5 ∷ 12 ∷ 7 ∷ 12 ∷ 7 ∷ [])
     ∷ answerWords (days (join 0 1 1 1 ∷ []) (place 0 0 ∷ place 1 2 ∷ [])) sheet
@@ -98,16 +99,16 @@ answers =
     ∷ answerWords (days [] (place 1 0 ∷ place 0 0 ∷ place 0 0 ∷ [])) (2 ∷ 2 ∷ 1 ∷ 0 ∷ 2 ∷ 0 ∷ 3 ∷ 0 ∷ 0 ∷ 4 ∷ 0 ∷ 0 ∷ [])
     gives (3 ∷ 1 ∷ 1 ∷ 4 ∷ 1 ∷ 1 ∷ 3 ∷ 2 ∷ 2 ∷ 4 ∷ 2 ∷ 2 ∷ [])
     ∷ answerWords (days [] (place 0 0 ∷ [])) (2 ∷ 0 ∷ 1 ∷ 0 ∷ 2 ∷ 0 ∷ []) gives []
-    ∷ answerWords (days (sel 1 2 7 ∷ join 0 0 1 0 ∷ []) (place 1 2 ∷ [])) sheet gives (7 ∷ 7 ∷ [])
-    ∷ answerWords (days (sel 0 0 11 ∷ sel 0 0 12 ∷ []) (place 1 2 ∷ [])) sheet gives []
+    ∷ answerWords (days (selection 1 2 7 ∷ join 0 0 1 0 ∷ []) (place 1 2 ∷ [])) sheet gives (7 ∷ 7 ∷ [])
+    ∷ answerWords (days (selection 0 0 11 ∷ selection 0 0 12 ∷ []) (place 1 2 ∷ [])) sheet gives []
     ∷ []
 
 -- ---- the statements
 
-abbrev examples : List Example
+abbrev examples : List Figure
 examples = ends ++ heads ++ limits ++ rules ++ structs ++ paths ++ answers
 
-pub examples-hold : map (λ (x : Example). x .got) examples ≡ map (λ (x : Example). x .want) examples
+pub examples-hold : Hold examples
 unfolding numbered padded numbersFrom littleEnd bytesOf firstFrom insert rising numberAt numberThat marked markOf versionAt headOf samePlace placeAt placeBytes columnsOf columnAt columnBytes columnsThen relationAt relationBytes domainOf selectionAt joined joinAt clauseAt kindBytes sizesOf relationsOf clausesOf targetsOf columnsIn withVersion withSizes withRelations withClauses withTargets siteOf isAt holds names kept keptColumns firstBare ended filled listInto targetsThen clausesThen relationsThen sizesThen envelopeFrom envelopeBytes checkEnvelope edges onPath places isPlace legalBy legalSteps stepBytes constantsOf selectionsBy equalitiesBy stepsOf stepAt endedProgram stepsThen programBy readProgram programBytes checkProgram rowsIn tablesIn tablesOf meetsAll answerOn answerRows
 examples-hold = refl
 

@@ -11,20 +11,16 @@ use Rattle.ground.specs.Searching.{firstFrom}
 use Rattle.ground.specs.Rising.{insert, rising}
 use Rattle.entries.specs.Relations.{relationWith}
 use Rattle.entries.specs.Places.{place, samePlace}
-use Rattle.entries.specs.Clauses.{clause, domainOf}
-use Rattle.contents.specs.Parts.{sizesOf, relationsOf, clausesOf, targetsOf, columnsIn, noEnvelope, withVersion, withSizes, withRelations, withClauses, withTargets}
+use Rattle.entries.specs.Clauses.{domainOf}
+use Rattle.contents.specs.Parts.{sizesOf, relationsOf, clausesOf, targetsOf, columnsIn, withVersion, withSizes, withRelations, withClauses, withTargets}
 use Rattle.contents.specs.Sites.{siteOf, isAt, holds}
 use Rattle.contents.specs.Kept.{names, kept, keptColumns}
-use Rattle.entries.specs.declared.places.Place.{Place}
-use Rattle.entries.specs.declared.relations.Column.{Column}
-use Rattle.entries.specs.declared.relations.Relation.{Relation}
-use Rattle.entries.specs.declared.clauses.Clause.{Clause}
-use Rattle.entries.specs.declared.clauses.ClauseKind.the-variants.{Selection, Join}
 use Rattle.contents.specs.declared.envelope.Envelope.{Envelope}
 use Rattle.paths.specs.Paths.{edges, onPath}
 use Rattle.paths.specs.Steps.{step, places, isPlace, legalBy, legalSteps}
 use Rattle.paths.specs.Implied.{constantsOf, selectionsBy}
 use Rattle.paths.specs.declared.steps.Step.{Step}
+use Rattle.papers.proofs.ExamplePapers.{selection, join, columnWith, asks}
 use Rattle.estimates.specs.Division.{over}
 use Rattle.estimates.specs.Short.{Y}
 use Rattle.estimates.specs.Columns.{columnOf, domainSize, widthOf}
@@ -36,25 +32,12 @@ use Rattle.planner.specs.Plan.{siteFor, greedySteps, dropsAt, afterDrops
 use Rattle.estimates.specs.declared.lines.Line.{Line}
 use Rattle.planner.specs.declared.plans.Plan.{Plan}
 
-abbrev col : ℕ → ℕ → ℕ → Column
-col d w n = record { domain = d; width = w; distinct = n }
-
-abbrev selection : ℕ → ℕ → ℕ → Clause
-selection r c v = clause (Selection (place r c) v)
-
-abbrev join : ℕ → ℕ → ℕ → ℕ → Clause
-join r c s d = clause (Join (place r c) (place s d))
-
-abbrev asks : List ℕ → List Relation → List Clause → List Place → Envelope
-asks sizes relations clauses targets =
-    withTargets targets (withClauses clauses (withRelations relations (withSizes sizes (withVersion 1 noEnvelope))))
-
 abbrev pub E1 : Envelope
 E1 =
     asks (5000 ∷ 10000 ∷ replicate 9 5000)
-    (relationWith 1 5 5000 (col 0 1 5000 ∷ col 2 3 1 ∷ col 3 3 1 ∷ col 4 3 1 ∷ col 5 3 50 ∷ [])
-    ∷ relationWith 2 4 100000 (col 0 1 1000 ∷ col 1 1 10000 ∷ col 6 1 1 ∷ col 7 1 1 ∷ [])
-    ∷ relationWith 3 4 10000 (col 1 1 10000 ∷ col 8 1 200 ∷ col 9 1 1 ∷ col 10 3 1 ∷ [])
+    (relationWith 1 5 5000 (columnWith 0 1 5000 ∷ columnWith 2 3 1 ∷ columnWith 3 3 1 ∷ columnWith 4 3 1 ∷ columnWith 5 3 50 ∷ [])
+    ∷ relationWith 2 4 100000 (columnWith 0 1 1000 ∷ columnWith 1 1 10000 ∷ columnWith 6 1 1 ∷ columnWith 7 1 1 ∷ [])
+    ∷ relationWith 3 4 10000 (columnWith 1 1 10000 ∷ columnWith 8 1 200 ∷ columnWith 9 1 1 ∷ columnWith 10 3 1 ∷ [])
     ∷ [])
     (selection 0 4 1 ∷ join 0 0 1 0 ∷ join 1 1 2 0 ∷ selection 2 1 7401 ∷ [])
     (place 0 0 ∷ place 0 1 ∷ place 0 2 ∷ place 0 3 ∷ place 0 4 ∷ place 1 0 ∷ place 1 1 ∷ place 1 3 ∷ place 2 0 ∷ place 2 1 ∷ place 2 2 ∷ [])
@@ -62,7 +45,7 @@ E1 =
 -- R at site 1, 100 rows, one column, width 1, 100 distinct; S at site 2, 1000 rows, width 1, 1000 distinct; domain 1000
 abbrev pub fallen : Envelope
 fallen =
-    asks (1000 ∷ []) (relationWith 1 1 100 (col 0 1 100 ∷ []) ∷ relationWith 2 1 1000 (col 0 1 1000 ∷ []) ∷ []) (join 0 0 1 0 ∷ []) (place 0 0 ∷ [])
+    asks (1000 ∷ []) (relationWith 1 1 100 (columnWith 0 1 100 ∷ []) ∷ relationWith 2 1 1000 (columnWith 0 1 1000 ∷ []) ∷ []) (join 0 0 1 0 ∷ []) (place 0 0 ∷ [])
 
 abbrev numbers : Step → List ℕ
 numbers s = s .left .relation ∷ s .left .column ∷ s .right .relation ∷ s .right .column ∷ []
