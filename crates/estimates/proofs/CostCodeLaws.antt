@@ -16,7 +16,7 @@ use Rattle.entries.specs.declared.relations.Column.{Column}
 use Rattle.contents.specs.declared.envelope.Envelope.{Envelope}
 use Rattle.paths.specs.declared.steps.Step.{Step}
 use Rattle.estimates.specs.Columns.{columnOf}
-use Rattle.estimates.specs.Profile.{rowsOf, countOf, rowsAfter, benefit, widthAt}
+use Rattle.estimates.specs.Profile.{estimatedRows, distinctOf, rowsAfter, benefit, widthAt}
 use Rattle.estimates.specs.Ready.{Cheap, Bounded}
 use Rattle.estimates.specs.Costs.{plainCosts, priced, stepCost, assemblyAt}
 use Rattle.estimates.specs.declared.profiles.Profile.{Profile}
@@ -49,16 +49,16 @@ module _ (k : Costs) (sender receiver size price : ℕ) (f : price ≡ getD (k .
   priced-is = rw f
 
 -- sizes, as something else gave their parts
-pub cost-size : (p : Profile) (s : Step) (count width : ℕ) → count ≡ countOf p (s .right) → countOf p (s .right) ≤ 1000000 → width < 256
+pub cost-size : (p : Profile) (s : Step) (count width : ℕ) → count ≡ distinctOf p (s .right) → distinctOf p (s .right) ≤ 1000000 → width < 256
     → count * width ≤ 255000000
 cost-size p s count width f h k = let l : width ≤ 255 = omega arith in rw f (mul-le-mul h l)
 
-pub sent-size : (p : Profile) (r rows width : ℕ) → rows ≡ rowsOf p r → width ≡ widthAt p r → rowsOf p r ≤ 1000000
+pub sent-size : (p : Profile) (r rows width : ℕ) → rows ≡ estimatedRows p r → width ≡ widthAt p r → estimatedRows p r ≤ 1000000
     → widthAt p r ≤ 2040 → rows * width ≤ 2040000000
 sent-size p r rows width f g h k = rw (f, g) (mul-le-mul h k)
 
 module _ (k : Costs) (e : Envelope) (p : Profile) where
-  pub cost-is : (s : Step) (c : Column) (count sender receiver r : ℕ) → c ≡ columnOf e (s .right) → count ≡ countOf p (s .right)
+  pub cost-is : (s : Step) (c : Column) (count sender receiver r : ℕ) → c ≡ columnOf e (s .right) → count ≡ distinctOf p (s .right)
       → sender ≡ siteOf e (s .right .relation) → receiver ≡ siteOf e (s .left .relation)
       → r ≡ priced k sender receiver (count * c .width) → r ≡ stepCost k e p s
   unfolding stepCost
@@ -67,16 +67,16 @@ module _ (k : Costs) (e : Envelope) (p : Profile) where
   -- ---- assembly
 
   abbrev pub sentTo : ℕ → ℕ → ℕ
-  sentTo site r = priced k (siteOf e r) site (rowsOf p r * widthAt p r)
+  sentTo site r = priced k (siteOf e r) site (estimatedRows p r * widthAt p r)
 
-  pub sent-is : (site r rows width sender x : ℕ) → rows ≡ rowsOf p r → width ≡ widthAt p r → sender ≡ siteOf e r
+  pub sent-is : (site r rows width sender x : ℕ) → rows ≡ estimatedRows p r → width ≡ widthAt p r → sender ≡ siteOf e r
       → x ≡ priced k sender site (rows * width) → x ≡ sentTo site r
   sent-is site r rows width sender x f g h w = w ∙ rw (f, g, h)
 
   sent-small : Bounded k p → (site r : ℕ) → sentTo site r ≤ 2040000000
   unfolding priced
   sent-small b site r =
-      let g : rowsOf p r * widthAt p r * getD (k .prices) (8 * siteOf e r + site) 0 ≤ 1000000 * 2040 * 1 =
+      let g : estimatedRows p r * widthAt p r * getD (k .prices) (8 * siteOf e r + site) 0 ≤ 1000000 * 2040 * 1 =
       mul-le-mul (mul-le-mul (b .rows r) (b .widths r)) (b .prices (8 * siteOf e r + site)) in
       omega (arith, g)
 
@@ -119,13 +119,13 @@ module _ (k : Costs) (e : Envelope) (p : Profile) (site end : ℕ) where
 -- ---- the benefit
 
 module _ (e : Envelope) (p : Profile) (s : Step) where
-  pub benefit-is : (width before after : ℕ) → width ≡ widthAt p (s .left .relation) → before ≡ rowsOf p (s .left .relation)
+  pub benefit-is : (width before after : ℕ) → width ≡ widthAt p (s .left .relation) → before ≡ estimatedRows p (s .left .relation)
       → after ≡ rowsAfter e p s → width * (before - after) ≡ benefit e p s
   unfolding benefit
   benefit-is width before after f g h = rw (f, g, h)
 
   pub lost-most : (width before after : ℕ) → width ≡ widthAt p (s .left .relation) → widthAt p (s .left .relation) ≤ 2040
-      → before ≡ rowsOf p (s .left .relation) → rowsOf p (s .left .relation) ≤ 1000000 → width * (before - after) ≤ 2040000000
+      → before ≡ estimatedRows p (s .left .relation) → estimatedRows p (s .left .relation) ≤ 1000000 → width * (before - after) ≤ 2040000000
   lost-most width before after f h g k =
       let l : before - after ≤ 1000000 = omega arith in
       let m : width ≤ 2040 = omega arith in

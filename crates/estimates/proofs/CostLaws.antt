@@ -26,7 +26,7 @@ use Rattle.paths.specs.declared.steps.Step.{Step}
 use Rattle.paths.proofs.LabelLaws.{in-place, columns-few}
 use Rattle.paths.proofs.StepLaws.{legal-step}
 use Rattle.estimates.specs.Columns.{columnOf, widthOf}
-use Rattle.estimates.specs.Profile.{given, widthAt, rowsOf}
+use Rattle.estimates.specs.Profile.{given, widthAt, estimatedRows}
 use Rattle.estimates.specs.Costs.{plainCosts, priced, stepCost, assemblyAt}
 use Rattle.estimates.specs.Kind.{afterAll}
 use Rattle.estimates.specs.Estimate.{kindOf}
@@ -90,7 +90,7 @@ module _ (e : Envelope) (w : Within e) where
         let few : length (below (relationCount e)) ≤ 8 = omega (arith, below-length (relationCount e)) in
         omega (
           arith,
-          sum-most (λ r. priced k (siteOf e r) site (rowsOf p r * widthAt p r)) (2040000000 * m) (below (relationCount e))
+          sum-most (λ r. priced k (siteOf e r) site (estimatedRows p r * widthAt p r)) (2040000000 * m) (below (relationCount e))
               (λ r _. priced-most 2040000000 _ _ _ (mul-le-mul (rows-most e w p i r) (widths-most p i r))),
           mul-le-mul-left (2040000000 * m) few,
         )

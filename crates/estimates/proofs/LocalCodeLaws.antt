@@ -28,7 +28,7 @@ use Rattle.paths.specs.declared.implied.Selected.{Selected}
 use Rattle.paths.specs.declared.implied.Selections.{Selections}
 use Rattle.paths.proofs.ImpliedLaws.{selections-few, selections-by-labels}
 use Rattle.estimates.specs.Division.{over}
-use Rattle.estimates.specs.Profile.{rowsOf, countOf, given, shrunk, afterSelection, afterSelections, afterRelations, localProfile}
+use Rattle.estimates.specs.Profile.{estimatedRows, distinctOf, given, shrunk, afterSelection, afterSelections, afterRelations, localProfile}
 use Rattle.estimates.specs.Ready.{Low}
 use Rattle.estimates.specs.declared.profiles.Profile.{Profile}
 use Rattle.estimates.proofs.ShortLaws.{Y-most}
@@ -64,18 +64,18 @@ shrunk-small p a n count h k s =
           (every-of _ (below 64)
           (λ i _.
           pick-low (eqb (i / 8) (a .relation)) _ _
-          (pick-low (eqb (i % 8) (a .column)) _ _ k (le-trans (Y-most (getD (p .counts) i 0) (rowsOf p (a .relation)) n) (s .counts i)))
+          (pick-low (eqb (i % 8) (a .column)) _ _ k (le-trans (Y-most (getD (p .counts) i 0) (estimatedRows p (a .relation)) n) (s .counts i)))
           (s .counts i))));
     }
 
 selection-small : (p : Profile) (a : Place) → Small p → Small (afterSelection p a)
 unfolding afterSelection
 selection-small p a s =
-    shrunk-small p a n (pick (eqb n 0) 0 1) (le-trans (over-itself (rowsOf p (a .relation)) (countOf p a)) (s .rows (a .relation)))
+    shrunk-small p a n (pick (eqb n 0) 0 1) (le-trans (over-itself (estimatedRows p (a .relation)) (distinctOf p a)) (s .rows (a .relation)))
     (pick-low (eqb n 0) 0 1 zero-le (omega arith)) s
   where
     n : ℕ
-    n = over (rowsOf p (a .relation)) (countOf p a)
+    n = over (estimatedRows p (a .relation)) (distinctOf p a)
 
 selections-small : (p : Profile) (r : ℕ) (l : List Selected) → Small p → Small (afterSelections p r l)
 selections-small p r [] s = s

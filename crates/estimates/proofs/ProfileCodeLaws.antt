@@ -20,7 +20,7 @@ use Rattle.contents.specs.declared.envelope.Envelope.{Envelope}
 use Rattle.contents.proofs.PartLaws.{relation-inside, relation-outside}
 use Rattle.estimates.specs.Short.{Y}
 use Rattle.estimates.specs.Columns.{columnOf, widthOf}
-use Rattle.estimates.specs.Profile.{rowsOf, given, shrunk}
+use Rattle.estimates.specs.Profile.{estimatedRows, given, shrunk}
 use Rattle.estimates.specs.declared.profiles.Profile.{Profile}
 use Rattle.estimates.proofs.TableCodeLaws.{Table, table-done}
 
@@ -73,14 +73,14 @@ none-at l n i e h = sym (List·getD-eq-default l 0 (omega arith))
 abbrev pub countLeft : Profile → Place → ℕ → ℕ → ℕ → ℕ
 countLeft p a n count k =
     pick (eqb (k / 8) (a .relation))
-    (pick (eqb (k % 8) (a .column)) count (Y (getD (p .counts) k 0) (rowsOf p (a .relation)) n))
+    (pick (eqb (k % 8) (a .column)) count (Y (getD (p .counts) k 0) (estimatedRows p (a .relation)) n))
     (getD (p .counts) k 0)
 
 module _ (p : Profile) (a : Place) (n count : ℕ) where
   module _ (k : ℕ) (h : k < 64) where
     left-is :
         pick (eqb (k / 8) (a .relation))
-        (pick (eqb (k % 8) (a .column)) count (Y (getD (p .counts) k 0) (rowsOf p (a .relation)) n))
+        (pick (eqb (k % 8) (a .column)) count (Y (getD (p .counts) k 0) (estimatedRows p (a .relation)) n))
         (getD (p .counts) k 0)
         ≡ getD (shrunk p a n count .counts) k 0
     unfolding shrunk
@@ -93,7 +93,7 @@ module _ (p : Profile) (a : Place) (n count : ℕ) where
     pub left-same : k / 8 ≡ a .relation → k % 8 ≡ a .column → count ≡ getD (shrunk p a n count .counts) k 0
     left-same e f = rw (eq-eqb (k / 8) (a .relation) e, eq-eqb (k % 8) (a .column) f) at left-is
 
-    pub left-short : k / 8 ≡ a .relation → (k % 8 ≡ a .column → ⊥) → (m y : ℕ) → m ≡ rowsOf p (a .relation)
+    pub left-short : k / 8 ≡ a .relation → (k % 8 ≡ a .column → ⊥) → (m y : ℕ) → m ≡ estimatedRows p (a .relation)
         → y ≡ Y (getD (p .counts) k 0) m n → y ≡ getD (shrunk p a n count .counts) k 0
     left-short e f m y g w =
         w ∙ ap (λ (x : ℕ). Y (getD (p .counts) k 0) x n) g

@@ -38,14 +38,14 @@ use Rattle.paths.proofs.StepLaws.{legal-step}
 use Rattle.estimates.specs.Division.{over}
 use Rattle.estimates.specs.Short.{Y}
 use Rattle.estimates.specs.Columns.{columnOf, domainSize}
-use Rattle.estimates.specs.Profile.{rowsOf, countOf, given, shrunk, afterSelection, remaining, rowsAfter, countAfter, afterStep, afterSelections, afterRelations, localProfile}
+use Rattle.estimates.specs.Profile.{estimatedRows, distinctOf, given, shrunk, afterSelection, remaining, rowsAfter, countAfter, afterStep, afterSelections, afterRelations, localProfile}
 use Rattle.estimates.specs.declared.profiles.Profile.{Profile}
 use Rattle.estimates.proofs.DivisionLaws.{over-none, over-some, over-most}
 use Rattle.estimates.proofs.ShortLaws.{Y-most}
 
 -- at most what the envelope says, at every place, and of its widths
 pub record Inside (e : Envelope) (p : Profile) : Type 0 where
-  pub rows : (r : ℕ) → rowsOf p r ≤ rowsOf (given e) r
+  pub rows : (r : ℕ) → estimatedRows p r ≤ estimatedRows (given e) r
   pub counts : (i : ℕ) → getD (p .counts) i 0 ≤ getD (given e .counts) i 0
   pub widths : p .widths ≡ given e .widths
   pub long-rows : length (p .rows) ≡ 8
@@ -75,22 +75,22 @@ mapped-length f n = length-map (below n) f ∙ below-length n
 
 -- ---- a relation that shrinks
 
-module _ (p : Profile) (a : Place) (n count : ℕ) (fewer : n ≤ rowsOf p (a .relation)) (less : count ≤ countOf p a) where
+module _ (p : Profile) (a : Place) (n count : ℕ) (fewer : n ≤ estimatedRows p (a .relation)) (less : count ≤ distinctOf p a) where
   abbrev new : ℕ → ℕ
   new i =
-      pick (eqb (i / 8) (a .relation)) (pick (eqb (i % 8) (a .column)) count (Y (getD (p .counts) i 0) (rowsOf p (a .relation)) n)) (getD (p .counts) i 0)
+      pick (eqb (i / 8) (a .relation)) (pick (eqb (i % 8) (a .column)) count (Y (getD (p .counts) i 0) (estimatedRows p (a .relation)) n)) (getD (p .counts) i 0)
 
   new-less : (i : ℕ) → new i ≤ getD (p .counts) i 0
   new-less i = go (eqb (i / 8) (a .relation)) (eqb (i % 8) (a .column)) refl refl
     where
       go : (b c : Bool) → eqb (i / 8) (a .relation) ≡ b → eqb (i % 8) (a .column) ≡ c
-          → pick b (pick c count (Y (getD (p .counts) i 0) (rowsOf p (a .relation)) n)) (getD (p .counts) i 0) ≤ getD (p .counts) i 0
+          → pick b (pick c count (Y (getD (p .counts) i 0) (estimatedRows p (a .relation)) n)) (getD (p .counts) i 0) ≤ getD (p .counts) i 0
       go true true s t =
           let u : i / 8 ≡ a .relation = eqb-true _ _ s in
           let v : i % 8 ≡ a .column = eqb-true _ _ t in
           let q : 8 * a .relation + a .column ≡ i = omega (arith, div-add-mod i 8) in
           rw q at less
-      go true false s t = Y-most (getD (p .counts) i 0) (rowsOf p (a .relation)) n
+      go true false s t = Y-most (getD (p .counts) i 0) (estimatedRows p (a .relation)) n
       go false c s t = le-refl _
 
   counts-less : (i : ℕ) → getD (map new (below 64)) i 0 ≤ getD (p .counts) i 0
@@ -131,18 +131,18 @@ module _ (e : Envelope) where
   selection-inside p a h = shrunk-inside p a n (pick (eqb n 0) 0 1) few (go (eqb n 0) refl) e h
     where
       n : ℕ
-      n = over (rowsOf p (a .relation)) (countOf p a)
+      n = over (estimatedRows p (a .relation)) (distinctOf p a)
 
-      few : n ≤ rowsOf p (a .relation)
+      few : n ≤ estimatedRows p (a .relation)
       few =
-          split 1 (countOf p a)
-          (λ l. over-most (rowsOf p (a .relation)) (rowsOf p (a .relation)) (countOf p a)
-          (omega (arith, mul-le-mul-left (rowsOf p (a .relation)) l)))
-          (λ l. let z : countOf p a ≡ 0 = omega arith in rw (z, over-none (rowsOf p (a .relation))) zero-le)
+          split 1 (distinctOf p a)
+          (λ l. over-most (estimatedRows p (a .relation)) (estimatedRows p (a .relation)) (distinctOf p a)
+          (omega (arith, mul-le-mul-left (estimatedRows p (a .relation)) l)))
+          (λ l. let z : distinctOf p a ≡ 0 = omega arith in rw (z, over-none (estimatedRows p (a .relation))) zero-le)
 
-      go : (b : Bool) → eqb n 0 ≡ b → pick b 0 1 ≤ countOf p a
+      go : (b : Bool) → eqb n 0 ≡ b → pick b 0 1 ≤ distinctOf p a
       go true s = zero-le
-      go false s = over-some (rowsOf p (a .relation)) (countOf p a) (eqb-false n 0 s)
+      go false s = over-some (estimatedRows p (a .relation)) (distinctOf p a) (eqb-false n 0 s)
 
   selections-inside : (r : ℕ) (l : List Selected) (p : Profile) → Inside e p → Inside e (afterSelections p r l)
   selections-inside r [] p h = h
@@ -214,14 +214,14 @@ module _ (e : Envelope) (w : Within e) where
   -- ---- bounds of a profile
 
   module _ (p : Profile) (i : Inside e p) where
-    pub rows-most : (r : ℕ) → rowsOf p r ≤ 1000000
+    pub rows-most : (r : ℕ) → estimatedRows p r ≤ 1000000
     unfolding given
     rows-most r =
         le-trans (i .rows r)
         (getD-every (λ n. n ≤ 1000000) 0 zero-le (given e .rows)
         (every-mapped (λ n. n ≤ 1000000) (λ r. getD (relationsOf e) r pastRelation .rows) (below 8) (every-of _ (below 8) (λ r _. row-most r))) r)
 
-    pub count-distinct : (a : Place) → isPlace e a ≡ true → countOf p a ≤ columnOf e a .distinct
+    pub count-distinct : (a : Place) → isPlace e a ≡ true → distinctOf p a ≤ columnOf e a .distinct
     unfolding given
     count-distinct a t =
         let (h, k) = place-node e a t in
@@ -230,10 +230,10 @@ module _ (e : Envelope) (w : Within e) where
         rw (counts-at (λ j. columnOf e (record { relation = j / 8; column = j % 8 }) .distinct) (8 * a .relation + a .column) (omega arith), u, v)
         at (i .counts (8 * a .relation + a .column))
 
-    pub count-most : (a : Place) → isPlace e a ≡ true → countOf p a ≤ 1000000
+    pub count-most : (a : Place) → isPlace e a ≡ true → distinctOf p a ≤ 1000000
     count-most a t = omega (arith, count-distinct a t, column-within a t .few, row-most (a .relation))
 
-    count-domain : (a : Place) → isPlace e a ≡ true → countOf p a ≤ domainSize e a
+    count-domain : (a : Place) → isPlace e a ≡ true → distinctOf p a ≤ domainSize e a
     unfolding domainSize
     count-domain a t = omega (arith, count-distinct a t, column-within a t .inside)
 
@@ -243,16 +243,16 @@ module _ (e : Envelope) (w : Within e) where
       shrinks : (x : ℕ) → remaining e p s x ≤ x
       shrinks x =
           let l : LegalStep e s = legal-step e s t in
-          over-most (x * countOf p (s .right)) x (domainSize e (s .left))
+          over-most (x * distinctOf p (s .right)) x (domainSize e (s .left))
           (mul-le-mul-left x (rw (step-domain s l) (count-domain (s .right) (l .right))))
 
-      pub rows-after : rowsAfter e p s ≤ rowsOf p (s .left .relation)
+      pub rows-after : rowsAfter e p s ≤ estimatedRows p (s .left .relation)
       unfolding rowsAfter
-      rows-after = shrinks (rowsOf p (s .left .relation))
+      rows-after = shrinks (estimatedRows p (s .left .relation))
 
-      pub count-after : countAfter e p s ≤ countOf p (s .left)
+      pub count-after : countAfter e p s ≤ distinctOf p (s .left)
       unfolding countAfter
-      count-after = shrinks (countOf p (s .left))
+      count-after = shrinks (distinctOf p (s .left))
 
       pub step-inside : Inside e (afterStep e p s)
       unfolding afterStep

@@ -16,7 +16,7 @@ use Rattle.paths.specs.Steps.{legal}
 use Rattle.papers.specs.Programs.{noStep, stepsOf, Acceptable}
 use Rattle.paths.specs.declared.steps.Step.{Step}
 use Rattle.papers.specs.declared.programs.Program.{Program}
-use Rattle.estimates.specs.Profile.{rowsOf, rowsAfter, afterStep, localProfile}
+use Rattle.estimates.specs.Profile.{estimatedRows, rowsAfter, afterStep, localProfile}
 use Rattle.estimates.specs.Costs.{stepCost}
 use Rattle.estimates.specs.Kind.{afterAll, costs}
 use Rattle.estimates.specs.Estimate.{kindOf}
@@ -71,7 +71,7 @@ module _ (k : Costs) (e : Envelope) (local : Profile) (w : Ready k e local) wher
       step-legal =
           rw step-at (every-getD (λ (s : Step). legal e s ≡ true) ss i noStep (omega (arith, a .whole)) (a .lawful))
 
-      pub step-shrinks : rowsAfter e p (getD steps i noStep) ≤ rowsOf p (getD steps i noStep .left .relation)
+      pub step-shrinks : rowsAfter e p (getD steps i noStep) ≤ estimatedRows p (getD steps i noStep .left .relation)
       step-shrinks = rows-after e (w .within) p (a .inside) (getD steps i noStep) step-legal
 
       pub step-few : rowsAfter e p (getD steps i noStep) ≤ 1000000

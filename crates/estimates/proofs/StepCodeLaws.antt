@@ -12,7 +12,7 @@ use Rattle.contents.specs.declared.envelope.Envelope.{Envelope}
 use Rattle.paths.specs.declared.steps.Step.{Step}
 use Rattle.estimates.specs.Division.{over}
 use Rattle.estimates.specs.Columns.{domainSize}
-use Rattle.estimates.specs.Profile.{rowsOf, countOf, shrunk, afterSelection, remaining, rowsAfter, countAfter, afterStep}
+use Rattle.estimates.specs.Profile.{estimatedRows, distinctOf, shrunk, afterSelection, remaining, rowsAfter, countAfter, afterStep}
 use Rattle.estimates.specs.Ready.{Low}
 use Rattle.estimates.specs.declared.profiles.Profile.{Profile}
 use Rattle.estimates.proofs.DivisionLaws.{over-none, over-most}
@@ -32,20 +32,20 @@ pub low-at : (l : List ℕ) (i n : ℕ) → n ≡ getD l i 0 → Low l → n ≤
 low-at l i n f h = rw f (h i)
 
 module _ (e : Envelope) (p : Profile) (s : Step) where
-  pub remaining-is : (count size : ℕ) → count ≡ countOf p (s .right) → size ≡ domainSize e (s .left) → (n r : ℕ) → r ≡ over (n * count) size
+  pub remaining-is : (count size : ℕ) → count ≡ distinctOf p (s .right) → size ≡ domainSize e (s .left) → (n r : ℕ) → r ≡ over (n * count) size
       → r ≡ remaining e p s n
   remaining-is count size f g n r k = k ∙ rw (f, g)
 
-  pub rows-after-is : (rows r : ℕ) → rows ≡ rowsOf p (s .left .relation) → r ≡ remaining e p s rows → r ≡ rowsAfter e p s
+  pub rows-after-is : (rows r : ℕ) → rows ≡ estimatedRows p (s .left .relation) → r ≡ remaining e p s rows → r ≡ rowsAfter e p s
   unfolding rowsAfter
   rows-after-is rows r h k = k ∙ rw h
 
-  pub count-after-is : (count r : ℕ) → count ≡ countOf p (s .left) → r ≡ remaining e p s count → r ≡ countAfter e p s
+  pub count-after-is : (count r : ℕ) → count ≡ distinctOf p (s .left) → r ≡ remaining e p s count → r ≡ countAfter e p s
   unfolding countAfter
   count-after-is count r h k = k ∙ rw h
 
-module _ (p : Profile) (a : Place) (rows count n : ℕ) (f : rows ≡ rowsOf p (a .relation)) (g : count ≡ countOf p a) (h : n ≡ over rows count) where
-  pub selection-most : rowsOf p (a .relation) ≤ 1000000 → n ≤ 1000000
+module _ (p : Profile) (a : Place) (rows count n : ℕ) (f : rows ≡ estimatedRows p (a .relation)) (g : count ≡ distinctOf p a) (h : n ≡ over rows count) where
+  pub selection-most : estimatedRows p (a .relation) ≤ 1000000 → n ≤ 1000000
   selection-most k = omega (arith, h, f, k, over-itself rows count)
 
   module _ (q : Profile) where

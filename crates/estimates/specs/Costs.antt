@@ -11,7 +11,7 @@ use Rattle.contents.specs.Sites.{siteOf}
 use Rattle.contents.specs.declared.envelope.Envelope.{Envelope}
 use Rattle.paths.specs.declared.steps.Step.{Step}
 use Rattle.estimates.specs.Columns.{columnOf}
-use Rattle.estimates.specs.Profile.{rowsOf, countOf, widthAt}
+use Rattle.estimates.specs.Profile.{estimatedRows, distinctOf, widthAt}
 use Rattle.estimates.specs.declared.profiles.Profile.{Profile}
 use Rattle.estimates.specs.declared.costs.Costs.{Costs}
 
@@ -24,7 +24,7 @@ priced k sender receiver size = size * getD (k .prices) (8 * sender + receiver) 
 
 unfoldable pub stepCost : Costs → Envelope → Profile → Step → ℕ
 stepCost k e p s =
-    priced k (siteOf e (s .right .relation)) (siteOf e (s .left .relation)) (countOf p (s .right) * columnOf e (s .right) .width)
+    priced k (siteOf e (s .right .relation)) (siteOf e (s .left .relation)) (distinctOf p (s .right) * columnOf e (s .right) .width)
 
 unfoldable pub assemblyAt : Costs → Envelope → Profile → ℕ → ℕ
-assemblyAt k e p site = sum (map (λ r. priced k (siteOf e r) site (rowsOf p r * widthAt p r)) (below (relationCount e)))
+assemblyAt k e p site = sum (map (λ r. priced k (siteOf e r) site (estimatedRows p r * widthAt p r)) (below (relationCount e)))

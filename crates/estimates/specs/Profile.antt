@@ -23,11 +23,11 @@ use Rattle.estimates.specs.declared.profiles.Profile.{Profile}
 
 -- ---- a profile
 
-abbrev pub rowsOf : Profile → ℕ → ℕ
-rowsOf p r = getD (p .rows) r 0
+abbrev pub estimatedRows : Profile → ℕ → ℕ
+estimatedRows p r = getD (p .rows) r 0
 
-abbrev pub countOf : Profile → Place → ℕ
-countOf p a = getD (p .counts) (8 * a .relation + a .column) 0
+abbrev pub distinctOf : Profile → Place → ℕ
+distinctOf p a = getD (p .counts) (8 * a .relation + a .column) 0
 
 abbrev pub widthAt : Profile → ℕ → ℕ
 widthAt p r = getD (p .widths) r 0
@@ -50,31 +50,31 @@ shrunk p a n count =
           map
           (λ k.
           pick (eqb (k / 8) (a .relation))
-          (pick (eqb (k % 8) (a .column)) count (Y (getD (p .counts) k 0) (rowsOf p (a .relation)) n))
+          (pick (eqb (k % 8) (a .column)) count (Y (getD (p .counts) k 0) (estimatedRows p (a .relation)) n))
           (getD (p .counts) k 0))
           (below 64);
       widths = p .widths;
     }
 
 unfoldable pub afterSelection : Profile → Place → Profile
-afterSelection p a = let n = over (rowsOf p (a .relation)) (countOf p a) in shrunk p a n (pick (eqb n 0) 0 1)
+afterSelection p a = let n = over (estimatedRows p (a .relation)) (distinctOf p a) in shrunk p a n (pick (eqb n 0) 0 1)
 
 -- what a step leaves of a number n of its left relation: n×s/D
 abbrev pub remaining : Envelope → Profile → Step → ℕ → ℕ
-remaining e p s n = over (n * countOf p (s .right)) (domainSize e (s .left))
+remaining e p s n = over (n * distinctOf p (s .right)) (domainSize e (s .left))
 
 -- of its rows, and of its left count
 unfoldable pub rowsAfter : Envelope → Profile → Step → ℕ
-rowsAfter e p s = remaining e p s (rowsOf p (s .left .relation))
+rowsAfter e p s = remaining e p s (estimatedRows p (s .left .relation))
 
 unfoldable pub countAfter : Envelope → Profile → Step → ℕ
-countAfter e p s = remaining e p s (countOf p (s .left))
+countAfter e p s = remaining e p s (distinctOf p (s .left))
 
 unfoldable pub afterStep : Envelope → Profile → Step → Profile
 afterStep e p s = shrunk p (s .left) (rowsAfter e p s) (countAfter e p s)
 
 unfoldable pub benefit : Envelope → Profile → Step → ℕ
-benefit e p s = widthAt p (s .left .relation) * (rowsOf p (s .left .relation) - rowsAfter e p s)
+benefit e p s = widthAt p (s .left .relation) * (estimatedRows p (s .left .relation) - rowsAfter e p s)
 
 -- ---- local operations
 

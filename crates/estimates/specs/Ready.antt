@@ -7,7 +7,7 @@ use lib.ListN.{getD}
 use Rattle.envelopes.specs.Rules.{Within, tidy}
 use Rattle.contents.specs.declared.envelope.Envelope.{Envelope}
 use Rattle.paths.specs.declared.steps.Step.{Step}
-use Rattle.estimates.specs.Profile.{rowsOf, rowsAfter, localProfile}
+use Rattle.estimates.specs.Profile.{estimatedRows, rowsAfter, localProfile}
 use Rattle.estimates.specs.declared.profiles.Profile.{Profile}
 use Rattle.estimates.specs.declared.costs.Costs.{Costs}
 
@@ -37,4 +37,4 @@ pub record Bounded (k : Costs) (p : Profile) : Type 0 where
 
 -- the rows that a step leaves are no more than there were
 abbrev pub Shrinks : Envelope → Profile → Step → Type 0
-Shrinks e p s = rowsAfter e p s ≤ rowsOf p (s .left .relation)
+Shrinks e p s = rowsAfter e p s ≤ estimatedRows p (s .left .relation)

@@ -8,7 +8,7 @@ ghost use lib.Dec.{eqb};
 ghost use lib.ListN.{getD};
 ghost use Rattle.ground.specs.Tests.{pick};
 ghost use Rattle.contents.specs.Sites.{siteOf};
-ghost use Rattle.estimates.specs.Profile.{rowsOf, widthAt, benefit};
+ghost use Rattle.estimates.specs.Profile.{estimatedRows, widthAt, benefit};
 ghost use Rattle.estimates.specs.Ready.{Cheap, Low, Narrow, Bounded, Shrinks};
 ghost use Rattle.estimates.specs.Costs.{plainCosts, priced, stepCost, assemblyAt};
 
@@ -74,7 +74,7 @@ pub(crate) fn step_cost(costs: Costs, envelope: Envelope, profile: Profile, step
 // What one relation costs to be sent to a site.
 fn sent(costs: Costs, envelope: Envelope, profile: Profile, site: u8, relation: u8) -> u64
     requires { ⌜ Bounded costs profile ⌝ }
-    ensures { λ r. ⌜ r ≡ priced costs (siteOf envelope relation) site (rowsOf profile relation * widthAt profile relation) ⌝ }
+    ensures { λ r. ⌜ r ≡ priced costs (siteOf envelope relation) site (estimatedRows profile relation * widthAt profile relation) ⌝ }
 {
     let rows = crate::profiles::rows_at(profile, relation);
     let width = crate::profiles::width_at(profile, relation);

@@ -12,7 +12,7 @@ ghost use Rattle.entries.specs.Relations.{pastRelation};
 ghost use Rattle.entries.specs.Places.{place};
 ghost use Rattle.contents.specs.Parts.{relationsOf};
 ghost use Rattle.estimates.specs.Columns.{columnOf};
-ghost use Rattle.estimates.specs.Profile.{rowsOf, countOf, widthAt, given, shrunk, afterSelection, remaining, rowsAfter, countAfter, afterStep};
+ghost use Rattle.estimates.specs.Profile.{estimatedRows, distinctOf, widthAt, given, shrunk, afterSelection, remaining, rowsAfter, countAfter, afterStep};
 ghost use Rattle.estimates.specs.Ready.{Low};
 
 // Relation r has rows[r], its column c has counts[8 * r + c]. Its width, widths[r], stays as it is.
@@ -111,7 +111,7 @@ pub(crate) fn given(envelope: Envelope) -> Profile
 
 // The rows of a relation; 0 where there is no such relation.
 pub(crate) fn rows_at(profile: Profile, relation: u8) -> u64
-    ensures { λ r. ⌜ r ≡ rowsOf profile relation ⌝ }
+    ensures { λ r. ⌜ r ≡ estimatedRows profile relation ⌝ }
 {
     let rows = profile.rows;
     let i = relation as usize;
@@ -135,7 +135,7 @@ pub(crate) fn width_at(profile: Profile, relation: u8) -> u64
 
 // The distinct count of a column; 0 where there is no such place in a profile.
 pub(crate) fn count_at(profile: Profile, place: Place) -> u64
-    ensures { λ r. ⌜ r ≡ countOf profile place ⌝ }
+    ensures { λ r. ⌜ r ≡ distinctOf profile place ⌝ }
 {
     let counts = profile.counts;
     let i = 8 * (place.relation as usize) + place.column as usize;

@@ -8,24 +8,24 @@ use Rattle.paths.specs.declared.steps.Step.{Step}
 use Rattle.estimates.specs.declared.lines.Line.{Line}
 use Rattle.planner.specs.Promise.{linesIn}
 use Rattle.planner.specs.declared.plans.Plan.{Plan}
-use Rattle.listing.specs.Text.{text, decimal, labelled}
+use Rattle.listing.specs.Text.{text, decimal, behind}
 
 abbrev pub heading : List ℕ
 heading = text "left column right column benefit cost\n"
 
 unfoldable pub stepText : Step → List ℕ
 stepText s =
-    decimal (s .left .relation) ++ labelled " " (s .left .column) ++ labelled " " (s .right .relation) ++ labelled " " (s .right .column)
+    decimal (s .left .relation) ++ behind " " (s .left .column) ++ behind " " (s .right .relation) ++ behind " " (s .right .column)
 
 unfoldable pub stepLine : Line → List ℕ
-stepLine l = stepText (l .step) ++ labelled " " (l .benefit) ++ labelled " " (l .cost) ++ text "\n"
+stepLine l = stepText (l .step) ++ behind " " (l .benefit) ++ behind " " (l .cost) ++ text "\n"
 
 unfoldable pub lastLine : Plan → List ℕ
 lastLine p =
-    labelled "site " (p .site) ++ labelled " assembly " (p .assembly) ++ labelled " total " (p .total) ++ labelled " local " (p .local) ++ text "\n"
+    behind "site " (p .site) ++ behind " assembly " (p .assembly) ++ behind " total " (p .total) ++ behind " local " (p .local) ++ text "\n"
 
 unfoldable pub refusedLine : ℕ → ℕ → List ℕ
-refusedLine number position = labelled "refused " number ++ labelled " " position ++ text "\n"
+refusedLine number position = behind "refused " number ++ behind " " position ++ text "\n"
 
 unfoldable pub planLines : Plan → List ℕ
 planLines p = heading ++ each stepLine (linesIn p) ++ lastLine p

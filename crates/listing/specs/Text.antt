@@ -24,5 +24,5 @@ unfoldable pub decimal : ℕ → List ℕ
 decimal n = decimalIn 20 n
 
 -- a number behind some words
-abbrev pub labelled : String → ℕ → List ℕ
-labelled s n = text s ++ decimal n
+abbrev pub behind : String → ℕ → List ℕ
+behind s n = text s ++ decimal n

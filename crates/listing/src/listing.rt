@@ -19,9 +19,9 @@ fn put_step(out: &mut [u8], at: usize, step: Step) -> usize
     let left = step.left;
     let right = step.right;
     let a = texts::put_decimal(out, at, left.relation as u64);
-    let b = texts::put_labelled(out, a, b" ", left.column as u64);
-    let c = texts::put_labelled(out, b, b" ", right.relation as u64);
-    texts::put_labelled(out, c, b" ", right.column as u64)
+    let b = texts::put_behind(out, a, b" ", left.column as u64);
+    let c = texts::put_behind(out, b, b" ", right.relation as u64);
+    texts::put_behind(out, c, b" ", right.column as u64)
 }
 
 fn put_step_line(out: &mut [u8], at: usize, line: Line) -> usize
@@ -30,8 +30,8 @@ fn put_step_line(out: &mut [u8], at: usize, line: Line) -> usize
 {
     let step = line.step;
     let a = put_step(out, at, step);
-    let b = texts::put_labelled(out, a, b" ", line.benefit);
-    let c = texts::put_labelled(out, b, b" ", line.cost);
+    let b = texts::put_behind(out, a, b" ", line.benefit);
+    let c = texts::put_behind(out, b, b" ", line.cost);
     texts::put_words(out, c, b"\n")
 }
 
@@ -55,10 +55,10 @@ fn put_last_line(out: &mut [u8], at: usize, plan: Plan) -> usize
     requires { ⌜ at ≤ 50000 ⌝ }
     ensures { λ r. ⌜ Puts (now (out .entry)) at 110 (lastLine plan) r (now (out .exit)) ⌝ }
 {
-    let a = texts::put_labelled(out, at, b"site ", plan.site as u64);
-    let b = texts::put_labelled(out, a, b" assembly ", plan.assembly);
-    let c = texts::put_labelled(out, b, b" total ", plan.total);
-    let d = texts::put_labelled(out, c, b" local ", plan.local);
+    let a = texts::put_behind(out, at, b"site ", plan.site as u64);
+    let b = texts::put_behind(out, a, b" assembly ", plan.assembly);
+    let c = texts::put_behind(out, b, b" total ", plan.total);
+    let d = texts::put_behind(out, c, b" local ", plan.local);
     texts::put_words(out, d, b"\n")
 }
 
@@ -74,8 +74,8 @@ fn put_plan(out: &mut [u8], plan: Plan) -> usize
 fn put_refusal(out: &mut [u8], number: u8, position: usize) -> usize
     ensures { λ r. ⌜ Puts (now (out .entry)) 0 50 (refusedLine number position) r (now (out .exit)) ⌝ }
 {
-    let a = texts::put_labelled(out, 0, b"refused ", number as u64);
-    let b = texts::put_labelled(out, a, b" ", position as u64);
+    let a = texts::put_behind(out, 0, b"refused ", number as u64);
+    let b = texts::put_behind(out, a, b" ", position as u64);
     texts::put_words(out, b, b"\n")
 }
 

@@ -55,7 +55,7 @@ pub(crate) fn put_decimal(out: &mut [u8], at: usize, n: u64) -> usize
 }
 
 // A number behind some words.
-pub(crate) fn put_labelled(out: &mut [u8], at: usize, words: &[u8], n: u64) -> usize
+pub(crate) fn put_behind(out: &mut [u8], at: usize, words: &[u8], n: u64) -> usize
     requires { ⌜ (at ≤ 90000) × (length (now words) ≤ 100) ⌝ }
     ensures { λ r. ⌜ Puts (now (out .entry)) at (length (now (words .entry)) + 20) (now (words .entry) ++ decimal n) r (now (out .exit)) ⌝ }
 {

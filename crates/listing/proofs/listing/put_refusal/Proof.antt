@@ -4,24 +4,24 @@ use Rattle.listing.proofs.listing.put_refusal.Statement.{statement}
 use Rattle.listing.proofs.listing.put_refusal.Tie as tie
 use Rattle.listing.proofs.listing.put_refusal.Reads as reads
 use Rattle.listing.proofs.listing.put_refusal.Lts as lts
-use Rattle.listing.proofs.texts.put_labelled.Reads as put-labelled-reads
+use Rattle.listing.proofs.texts.put_behind.Reads as put-behind-reads
 use Rattle.listing.proofs.texts.put_words.Reads as put-words-reads
 
 -- src/listing.rt:75:41
-slice-aggregate-put-labelled : tie.Need-slice-aggregate-put-labelled
-slice-aggregate-put-labelled c = search needs
+slice-aggregate-put-behind : tie.Need-slice-aggregate-put-behind
+slice-aggregate-put-behind c = search needs
 
 -- src/listing.rt:75:9
-put-labelled-requires : tie.Need-put-labelled-requires
-put-labelled-requires c κs = search needs
+put-behind-requires : tie.Need-put-behind-requires
+put-behind-requires c κs = search needs
 
 -- src/listing.rt:76:41
-slice-aggregate-put-labelled-2 : tie.Need-slice-aggregate-put-labelled-2
-slice-aggregate-put-labelled-2 c = search needs
+slice-aggregate-put-behind-2 : tie.Need-slice-aggregate-put-behind-2
+slice-aggregate-put-behind-2 c = search needs
 
 -- src/listing.rt:76:9
-put-labelled-requires-2 : tie.Need-put-labelled-requires-2
-put-labelled-requires-2 c κs = search needs
+put-behind-requires-2 : tie.Need-put-behind-requires-2
+put-behind-requires-2 c κs = search needs
 
 -- src/listing.rt:77:30
 slice-aggregate-put-words : tie.Need-slice-aggregate-put-words
@@ -43,10 +43,10 @@ pub put-refusal-spec : {M : Type 1} → statement M
 put-refusal-spec =
     tie.close
     (tie.spec
-    slice-aggregate-put-labelled
-    put-labelled-requires
-    slice-aggregate-put-labelled-2
-    put-labelled-requires-2
+    slice-aggregate-put-behind
+    put-behind-requires
+    slice-aggregate-put-behind-2
+    put-behind-requires-2
     slice-aggregate-put-words
     put-words-requires
     same-length

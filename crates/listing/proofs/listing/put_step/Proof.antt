@@ -5,7 +5,7 @@ use Rattle.listing.proofs.listing.put_step.Tie as tie
 use Rattle.listing.proofs.listing.put_step.Reads as reads
 use Rattle.listing.proofs.listing.put_step.Lts as lts
 use Rattle.listing.proofs.texts.put_decimal.Reads as put-decimal-reads
-use Rattle.listing.proofs.texts.put_labelled.Reads as put-labelled-reads
+use Rattle.listing.proofs.texts.put_behind.Reads as put-behind-reads
 
 -- src/listing.rt:19:41
 cast-put-decimal : tie.Need-cast-put-decimal
@@ -16,40 +16,40 @@ put-decimal-requires : tie.Need-put-decimal-requires
 put-decimal-requires c κs = search needs
 
 -- src/listing.rt:20:41
-slice-aggregate-put-labelled : tie.Need-slice-aggregate-put-labelled
-slice-aggregate-put-labelled c = search needs
+slice-aggregate-put-behind : tie.Need-slice-aggregate-put-behind
+slice-aggregate-put-behind c = search needs
 
 -- src/listing.rt:20:47
-cast-put-labelled : tie.Need-cast-put-labelled
-cast-put-labelled c = search needs
+cast-put-behind : tie.Need-cast-put-behind
+cast-put-behind c = search needs
 
 -- src/listing.rt:20:9
-put-labelled-requires : tie.Need-put-labelled-requires
-put-labelled-requires c κs = search needs
+put-behind-requires : tie.Need-put-behind-requires
+put-behind-requires c κs = search needs
 
 -- src/listing.rt:21:41
-slice-aggregate-put-labelled-2 : tie.Need-slice-aggregate-put-labelled-2
-slice-aggregate-put-labelled-2 c = search needs
+slice-aggregate-put-behind-2 : tie.Need-slice-aggregate-put-behind-2
+slice-aggregate-put-behind-2 c = search needs
 
 -- src/listing.rt:21:47
-cast-put-labelled-2 : tie.Need-cast-put-labelled-2
-cast-put-labelled-2 c = search needs
+cast-put-behind-2 : tie.Need-cast-put-behind-2
+cast-put-behind-2 c = search needs
 
 -- src/listing.rt:21:9
-put-labelled-requires-2 : tie.Need-put-labelled-requires-2
-put-labelled-requires-2 c κs = search needs
+put-behind-requires-2 : tie.Need-put-behind-requires-2
+put-behind-requires-2 c κs = search needs
 
 -- src/listing.rt:22:33
-slice-aggregate-put-labelled-3 : tie.Need-slice-aggregate-put-labelled-3
-slice-aggregate-put-labelled-3 c = search needs
+slice-aggregate-put-behind-3 : tie.Need-slice-aggregate-put-behind-3
+slice-aggregate-put-behind-3 c = search needs
 
 -- src/listing.rt:22:39
-cast-put-labelled-3 : tie.Need-cast-put-labelled-3
-cast-put-labelled-3 c = search needs
+cast-put-behind-3 : tie.Need-cast-put-behind-3
+cast-put-behind-3 c = search needs
 
 -- src/listing.rt:22:5
-put-labelled-requires-3 : tie.Need-put-labelled-requires-3
-put-labelled-requires-3 c κs = search needs
+put-behind-requires-3 : tie.Need-put-behind-requires-3
+put-behind-requires-3 c κs = search needs
 
 -- src/listing.rt:13:1
 same-length : tie.Need-same-length
@@ -65,14 +65,14 @@ put-step-spec =
     (tie.spec
     cast-put-decimal
     put-decimal-requires
-    slice-aggregate-put-labelled
-    cast-put-labelled
-    put-labelled-requires
-    slice-aggregate-put-labelled-2
-    cast-put-labelled-2
-    put-labelled-requires-2
-    slice-aggregate-put-labelled-3
-    cast-put-labelled-3
-    put-labelled-requires-3
+    slice-aggregate-put-behind
+    cast-put-behind
+    put-behind-requires
+    slice-aggregate-put-behind-2
+    cast-put-behind-2
+    put-behind-requires-2
+    slice-aggregate-put-behind-3
+    cast-put-behind-3
+    put-behind-requires-3
     same-length
     returns)

@@ -5,7 +5,7 @@ use Rattle.listing.proofs.listing.put_step_line.Tie as tie
 use Rattle.listing.proofs.listing.put_step_line.Reads as reads
 use Rattle.listing.proofs.listing.put_step_line.Lts as lts
 use Rattle.listing.proofs.listing.put_step.Reads as put-step-reads
-use Rattle.listing.proofs.texts.put_labelled.Reads as put-labelled-reads
+use Rattle.listing.proofs.texts.put_behind.Reads as put-behind-reads
 use Rattle.listing.proofs.texts.put_words.Reads as put-words-reads
 
 -- src/listing.rt:30:9
@@ -13,20 +13,20 @@ put-step-requires : tie.Need-put-step-requires
 put-step-requires c κs = search needs
 
 -- src/listing.rt:31:41
-slice-aggregate-put-labelled : tie.Need-slice-aggregate-put-labelled
-slice-aggregate-put-labelled c = search needs
+slice-aggregate-put-behind : tie.Need-slice-aggregate-put-behind
+slice-aggregate-put-behind c = search needs
 
 -- src/listing.rt:31:9
-put-labelled-requires : tie.Need-put-labelled-requires
-put-labelled-requires c κs = search needs
+put-behind-requires : tie.Need-put-behind-requires
+put-behind-requires c κs = search needs
 
 -- src/listing.rt:32:41
-slice-aggregate-put-labelled-2 : tie.Need-slice-aggregate-put-labelled-2
-slice-aggregate-put-labelled-2 c = search needs
+slice-aggregate-put-behind-2 : tie.Need-slice-aggregate-put-behind-2
+slice-aggregate-put-behind-2 c = search needs
 
 -- src/listing.rt:32:9
-put-labelled-requires-2 : tie.Need-put-labelled-requires-2
-put-labelled-requires-2 c κs = search needs
+put-behind-requires-2 : tie.Need-put-behind-requires-2
+put-behind-requires-2 c κs = search needs
 
 -- src/listing.rt:33:30
 slice-aggregate-put-words : tie.Need-slice-aggregate-put-words
@@ -49,10 +49,10 @@ put-step-line-spec =
     tie.close
     (tie.spec
     put-step-requires
-    slice-aggregate-put-labelled
-    put-labelled-requires
-    slice-aggregate-put-labelled-2
-    put-labelled-requires-2
+    slice-aggregate-put-behind
+    put-behind-requires
+    slice-aggregate-put-behind-2
+    put-behind-requires-2
     slice-aggregate-put-words
     put-words-requires
     same-length
