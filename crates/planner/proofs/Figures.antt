@@ -24,7 +24,7 @@ use Rattle.papers.proofs.ExamplePapers.{selection, join, columnWith, asks}
 use Rattle.estimates.specs.Division.{over}
 use Rattle.estimates.specs.Short.{Y}
 use Rattle.estimates.specs.Columns.{columnOf, domainSize, widthOf}
-use Rattle.estimates.specs.Profile.{given, shrunk, afterSelection, rowsAfter, countAfter, afterStep, benefit, localProfile}
+use Rattle.estimates.specs.Profile.{distinctOf, given, shrunk, afterSelection, rowsAfter, countAfter, afterStep, benefit, localProfile}
 use Rattle.estimates.specs.Costs.{plainCosts, priced, stepCost, assemblyAt}
 use Rattle.estimates.specs.Kind.{total}
 use Rattle.estimates.specs.Estimate.{kindOf, sameStep, linesOf, estimated}
@@ -64,6 +64,8 @@ figures =
     -- the two-step program of Figure 3.1 with site 1; local operations alone
     ∷ figure (total (kindOf plainCosts E1) (localProfile E1) 1 (step (place 1 1) (place 2 0) ∷ step (place 1 0) (place 0 0) ∷ []) ∷ []) (330 ∷ [])
     ∷ figure (planFor plainCosts E1 .local ∷ []) (1450 ∷ [])
+    -- SUPPLY's P# behind the first step: with the 10000 of the figure 50, with the text's 5000 it would be 25
+    ∷ figure (distinctOf (afterStep E1 (localProfile E1) (step (place 1 1) (place 2 0))) (place 1 1) ∷ []) (50 ∷ [])
     -- its plan
     ∷ figure (shown (planFor plainCosts E1))
     (1 ∷ 1 ∷ 2 ∷ 0 ∷ 298500 ∷ 50
