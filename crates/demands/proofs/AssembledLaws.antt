@@ -1,19 +1,12 @@
 -- The answering station: from what it holds it answers as the envelope on all tables does, once every relation's row message has
 -- arrived; until then it says which is the first missing.
 use mathlib.Core.Path.{_≡_, ap, _∙_}
-use mathlib.Core.Bool.{true, false, not}
+use mathlib.Core.Bool.{true, false}
 use mathlib.Core.List.{List, [], map}
-use Prim.Native.Nat.{ℕ, _+_, _≤_, _<_}
-use native.Mathlib.Omega.{arith}
-use lib.ListN.{length, getD, take, length-map}
-use borrow.Author.Tests.{eq-eqb, lt-ltb, le-ltb}
-use Rattle.ground.specs.Lists.{Every, below}
-use Rattle.ground.specs.Searching.{firstFrom}
-use Rattle.ground.specs.Outcome.{Outcome, next}
+use Prim.Native.Nat.{ℕ, _≤_, _<_}
+use lib.ListN.{length, take, length-map}
 use Rattle.ground.specs.Outcome.Outcome.{good, bad}
 use Rattle.ground.proofs.EveryLaws.{every-of, every-mapped}
-use Rattle.ground.proofs.NumbersLaws.{below-from}
-use Rattle.ground.proofs.SearchingLaws.{first-is, none-past}
 use Rattle.fields.specs.Refusals.{waiting}
 use Rattle.contents.specs.Parts.{relationCount}
 use Rattle.contents.specs.Kept.{keptColumns}
@@ -21,7 +14,6 @@ use Rattle.contents.specs.declared.envelope.Envelope.{Envelope}
 use Rattle.envelopes.specs.Rules.{Within}
 use Rattle.paths.specs.Meaning.{Row, wordIn, answerWords}
 use Rattle.papers.specs.declared.programs.Program.{Program}
-use Rattle.papers.specs.declared.checks.Papers.{Papers}
 use Rattle.tables.specs.Rows.{SameRows, keptRows}
 use Rattle.semijoin.specs.Promise.{Covers}
 use Rattle.ends.specs.Ends.{hasArrived}
@@ -29,18 +21,18 @@ use Rattle.ends.specs.Messages.{rowMessage, rowsOf}
 use Rattle.station.specs.Making.{sentRows}
 use Rattle.station.specs.Receiving.{Held}
 use Rattle.ends.proofs.MessageLaws.{Wide, row-rows}
-use Rattle.answerer.specs.Answer.{fitted}
-use Rattle.answerer.specs.Stores.{sourceHeld, sourceOf, SoundRows}
-use Rattle.answerer.specs.Assembly.{firstAwaited, assembled, assembledWith, assembledOutcome}
+use Rattle.answerer.specs.Stores.{sourceHeld, heldBy, SoundRows}
+use Rattle.answerer.specs.Assembly.{answerFrom, assembledOutcome}
 use Rattle.answerer.specs.declared.sources.Source.{Source}
 use Rattle.answerer.proofs.StoreLaws.{held-lies}
+use Rattle.answerer.proofs.AssemblyLaws.{Assembles, assembly-waits, assembly-answers}
 use Rattle.answerer.proofs.DeliveredLaws.{sentOf, Delivered, delivered-answer}
 use Rattle.demands.specs.Link.{Crew, Allowed, State, lentStore}
 use Rattle.demands.specs.DemandThree.{LowerMade, Lower}
 use Rattle.demands.specs.DemandThree.Made.{values, rows}
-use Rattle.demands.proofs.TakenLaws.{sound-end}
+use Rattle.demands.proofs.TakenLaws.{Kept, SoundAt, Sound, good-papers, end-taken}
 use Rattle.demands.proofs.AppendedLaws.{held-map}
-use Rattle.demands.proofs.SoundLaws.{Kept, SoundAt, Sound, good-papers, lent-used, lent-same}
+use Rattle.demands.proofs.SoundLaws.{lent-used, lent-same}
 use Rattle.demands.proofs.SaidLaws.{value-rows, rows-rows}
 use Rattle.demands.proofs.ReadyLaws.{assembly-few}
 
@@ -97,51 +89,31 @@ module _ (c : Crew) (w : Allowed c) where
     abbrev held : List ℕ
     held = take (x .end .used) (x .store)
 
-    -- 14 and the end's own tests pass, and the words past those in use play no part
-    to-held : assembledOutcome (x .end) (lentStore x behind) out
-        ≡ next (sourceHeld e (c .run) (x .end .arrived) held) (λ y _. assembled e (x .end .arrived) y held out)
-    unfolding assembledOutcome assembledWith sourceOf
-    to-held =
-        ap (λ (o : Outcome Papers). next o (λ q _. assembledWith q (x .end) (lentStore x behind) out))
-        (sound-end (c .papers) (good-papers c w) (x .end) (s-at .envelope) (s-at .program) (s-at .few) .1)
-        ∙ rw (
-          eq-eqb (x .end .site) (p .site) (s-at .place),
-          le-ltb (length (lentStore x behind)) (x .end .used) (lent-used c (s .made) (p .site) x s-at behind []),
-          lent-same c (s .made) (p .site) x s-at behind [],
-          s-at .run,
-        )
-
-    by-source : (y : Source) (u : ℕ) → sourceHeld e (c .run) (x .end .arrived) held ≡ good y u
-        → assembledOutcome (x .end) (lentStore x behind) out ≡ assembled e (x .end .arrived) y held out
-    by-source y u is = to-held ∙ ap (λ (o : Outcome Source). next o (λ y _. assembled e (x .end .arrived) y held out)) is
+    -- an end that holds so assembles: the words past those in use play no part
+    assembles : (y : Source) (u : ℕ) → sourceHeld e (c .run) (x .end .arrived) held ≡ good y u
+        → Assembles (x .end) (lentStore x behind) out (c .papers) y
+    assembles y u is =
+        record {
+          sound = end-taken c w (s .made) (p .site) (assembly-few c w) x s-at;
+          here = s-at .place;
+          inside = lent-used c (s .made) (p .site) x s-at behind [];
+          held = (u, rw (lent-same c (s .made) (p .site) x s-at behind [], s-at .run) is);
+        }
 
     pub waits : (r : ℕ) → r < relationCount e → hasArrived (x .end) r ≡ false → ((k : ℕ) → k < r → hasArrived (x .end) k ≡ true)
         → assembledOutcome (x .end) (lentStore x behind) out ≡ bad waiting r
-    unfolding assembled firstAwaited
     waits r h missing before =
         let (y, u, is, _) =
         held-lies e (c .run) held (SoundRows e (c .run)) (λ _ _ z. z) (x .end .arrived)
         (held-map e (λ _ _ z. z .1) (x .end .arrived) held (s-at .stored)) in
-        let first : firstFrom (λ k. not (getD (x .end .arrived) k false)) 0 (relationCount e) ≡ r =
-        first-is (λ k. not (getD (x .end .arrived) k false)) 0 (relationCount e) r (omega arith) (omega arith) (rw missing) (λ k _ l. rw (before k l)) in
-        by-source y u is ∙ rw (first, lt-ltb r (relationCount e) h)
+        assembly-waits (x .end) (lentStore x behind) out (c .papers) y (assembles y u is) r h missing before
 
     pub answers : Lower c s → ((r : ℕ) → r < relationCount e → hasArrived (x .end) r ≡ true) → length (answerWords e (c .whole)) ≤ length out
         → assembledOutcome (x .end) (lentStore x behind) out ≡ good (answerWords e (c .whole)) 0
-    unfolding assembled firstAwaited fitted
     answers low all room =
         let (y, u, is, answer) =
         delivered-answer e within (c .run) (c .whole) (x .end .arrived) held
         (held-map e (held-delivered s low) (x .end .arrived) held (s-at .stored)) all in
-        let none : Every (λ (k : ℕ). not (getD (x .end .arrived) k false) ≡ false) (below (relationCount e)) =
-        every-of _ (below (relationCount e)) (λ k m. rw (all k (below-from (relationCount e) m))) in
-        let first : firstFrom (λ k. not (getD (x .end .arrived) k false)) 0 (relationCount e) ≡ 0 + relationCount e =
-        none-past (λ k. not (getD (x .end .arrived) k false)) 0 (relationCount e) none in
-        let past : relationCount e ≤ 0 + relationCount e = omega arith in
-        by-source y u is
-        ∙ rw (
-          first,
-          le-ltb (0 + relationCount e) (relationCount e) past,
-          answer,
-          le-ltb (length out) (length (answerWords e (c .whole))) room,
-        )
+        let same : answerFrom e y (heldBy (x .end) (lentStore x behind)) ≡ answerWords e (c .whole) =
+        ap (answerFrom e y) (lent-same c (s .made) (p .site) x s-at behind []) ∙ answer in
+        assembly-answers (x .end) (lentStore x behind) out (c .papers) y (assembles y u is) all (rw same room) ∙ ap (λ (l : List ℕ). good l 0) same

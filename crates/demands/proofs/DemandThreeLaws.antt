@@ -24,8 +24,8 @@ use Rattle.semijoin.proofs.CallLaws.{call-promise}
 use Rattle.ends.specs.Reducing.{stepCount}
 use Rattle.demands.specs.Link.{Crew, Allowed, State, start, Event, after, afterAll, Follows}
 use Rattle.demands.specs.DemandThree.{runAfter, Lower, Upper, answering, DemandThree, EveryHistory}
+use Rattle.demands.proofs.TakenLaws.{Sound}
 use Rattle.demands.proofs.AppendedLaws.{held-map}
-use Rattle.demands.proofs.SoundLaws.{Sound}
 use Rattle.demands.proofs.StartLaws.{sound-start, sound-next}
 use Rattle.demands.proofs.LowerLaws.{lower-start, lower-next}
 use Rattle.demands.proofs.UpperLaws.{upper-start, upper-next}

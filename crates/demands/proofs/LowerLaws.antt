@@ -1,7 +1,7 @@
 -- The lower half holds in every state: no row that takes part in an answer is lost, at any site or in any message.
 use mathlib.Core.Path.{_≡_, sym, ap, _∙_}
 use mathlib.Core.Bool.{true}
-use mathlib.Core.List.{List, [], _∷_, List·Memᴰ, List·Memᴰ·cases-cons}
+use mathlib.Core.List.{List, _∷_, List·Memᴰ, List·Memᴰ·cases-cons}
 use mathlib.Core.Logic.{_⊎_, inl, inr}
 use Prim.Native.Nat.{ℕ, _≤_, _<_}
 use native.Mathlib.Decide.{ℕ-discrete}
@@ -32,9 +32,9 @@ use Rattle.demands.specs.Link.{Crew, Allowed, State, Bears, start, Event
 use Rattle.demands.specs.Link.Event.{makesValues, makesRows, comes}
 use Rattle.demands.specs.DemandThree.{LowerMade, Lower}
 use Rattle.demands.specs.DemandThree.Made.{values, rows}
+use Rattle.demands.proofs.TakenLaws.{SoundAt, Sound, values-by, rows-by}
 use Rattle.station.proofs.MakingLaws.{with-values, with-rows}
-use Rattle.demands.proofs.TakenLaws.{values-by, rows-by}
-use Rattle.demands.proofs.SoundLaws.{SoundAt, Sound, Change, room-at, good-papers, changes, taken-at, taken-made}
+use Rattle.demands.proofs.SoundLaws.{Change, changes, taken-at, taken-made}
 use Rattle.demands.proofs.SoundLaws.Change.{refused, reduces, arrives}
 use Rattle.demands.proofs.StartLaws.{opened-marks, made-cases, own-made}
 use Rattle.demands.proofs.SaidLaws.{step-legal, value-step, rows-step}
@@ -66,8 +66,7 @@ module _ (c : Crew) (w : Allowed c) where
     lower-values : (n room : ℕ) → makeValuesOf (x .end) (c .tables site) (x .marks) n room ≡ good m u → LowerMade c m
     lower-values n room h =
         let b = stepOf p n .right in
-        let by = values-by (c .papers) (good-papers c w) (x .end) (s .envelope) (s .program) (s .few) (c .tables site) (x .marks) (w .shapes site small)
-        (room-at c w made site small x s) n room in
+        let by = values-by c w made site small x s n room in
         let (made-by, _, _) = with-values (x .end) (c .tables site) (x .marks) n room (c .papers) m u (sym by ∙ h) in
         let there : isAt e site (b .relation) ≡ true = rw (s .place) at (made-by .here) in
         let whole : Holds e (c .whole) (risingValues e (c .tables site) (x .marks) b) b =
@@ -79,8 +78,7 @@ module _ (c : Crew) (w : Allowed c) where
 
     lower-rows : (r room : ℕ) → makeRowsOf (x .end) (c .tables site) (x .marks) r room ≡ good m u → LowerMade c m
     lower-rows r room h =
-        let by = rows-by (c .papers) (good-papers c w) (x .end) (s .envelope) (s .program) (s .few) (c .tables site) (x .marks) (w .shapes site small)
-        (room-at c w made site small x s) r room in
+        let by = rows-by c w made site small x s r room in
         let (made-by, _, _) = with-rows (x .end) (c .tables site) (x .marks) r room (c .papers) m u (sym by ∙ h) in
         let there : isAt e site r ≡ true = rw (s .place) at (made-by .here) in
         rows r (c .tables site) (x .marks) (here-below e site r there) (rw (s .run) at (made-by .is)) (w .parts site r there) (low r there)

@@ -1,7 +1,7 @@
 -- In order every call is taken: all steps one after the other, and then each relation's row message.
 use mathlib.Core.Path.{_≡_, refl, sym, ap, _∙_}
 use mathlib.Core.Bool.{true, false}
-use mathlib.Core.List.{List, [], _∷_, _++_, List·Memᴰ, List·Memᴰ·head}
+use mathlib.Core.List.{List, [], _∷_, _++_, List·Memᴰ·head}
 use mathlib.Core.Logic.{inl}
 use Prim.Native.Nat.{ℕ, zero, suc, _+_, _≤_, _<_}
 use native.Mathlib.Decide.{ℕ-discrete}
@@ -30,8 +30,8 @@ use Rattle.station.proofs.MadeLaws.{rows-counted}
 use Rattle.station.proofs.RoomLaws.{message-most}
 use Rattle.demands.specs.Link.{Crew, Allowed, State, start, Event, Possible, withMade, withTaken, lentStore, after, afterAll, Follows}
 use Rattle.demands.specs.Orderly.{sendsStep, bringsStep, sendsRows, bringsRows, inTurn, inOrder, IsTaken, AllTaken, Happens, InOrder}
-use Rattle.demands.proofs.TakenLaws.{rows-by}
-use Rattle.demands.proofs.SoundLaws.{SoundAt, Sound, room-at, received, good-papers, taken-here, taken-there}
+use Rattle.demands.proofs.TakenLaws.{SoundAt, Sound, room-at, received, rows-by}
+use Rattle.demands.proofs.SoundLaws.{taken-here, taken-there}
 use Rattle.demands.proofs.StartLaws.{opened-end, no-steps, none-arrived, sound-start, sound-next}
 use Rattle.demands.proofs.SaidLaws.{steps-few}
 use Rattle.demands.proofs.GoingLaws.{rows-go, rows-come}
@@ -97,7 +97,7 @@ module _ (c : Crew) (w : Allowed c) (room : ℕ) (wide : 16400 ≤ room) where
 
     made : makeRowsOf (from .end) (c .tables sender) (from .marks) k room ≡ good sent (length sent)
     made =
-        rows-by (c .papers) (good-papers c w) (from .end) (s-from .envelope) (s-from .program) (s-from .few) (c .tables sender) (from .marks) shape marked k room
+        rows-by c w (s .made) sender (site-few c w k few) from s-from k room
         ∙ rows-go (c .papers) (from .end) (c .tables sender) (from .marks) k room (rw (s-from .place) (at-own c w k few))
         (omega (arith, ready .applied sender k (site-few c w k few) (at-own c w k few))) sent-few
 

@@ -2,7 +2,7 @@
 -- taken, and then every step before the next is applied.
 use mathlib.Core.Path.{_≡_, refl, sym, ap, _∙_}
 use mathlib.Core.Bool.{true, false}
-use mathlib.Core.List.{List, _∷_, List·Memᴰ, List·Memᴰ·head}
+use mathlib.Core.List.{List, _∷_, List·Memᴰ·head}
 use mathlib.Core.Logic.{inl}
 use Prim.Native.Nat.{ℕ, suc, _+_, _≤_, _<_}
 use native.Mathlib.Decide.{ℕ-discrete}
@@ -35,9 +35,9 @@ use Rattle.ends.proofs.MessageLaws.{about-step, value-run, value-second}
 use Rattle.station.proofs.MadeLaws.{values-sound}
 use Rattle.demands.specs.Link.{Crew, Allowed, State, Possible, withMade, withTaken, lentStore, after}
 use Rattle.demands.specs.Orderly.{sendsStep, bringsStep, IsTaken}
-use Rattle.demands.proofs.TakenLaws.{values-by}
+use Rattle.demands.proofs.TakenLaws.{SoundAt, Sound, received, good-papers, values-by}
 use Rattle.demands.proofs.RunLaws.{place-own, place-other}
-use Rattle.demands.proofs.SoundLaws.{SoundAt, Sound, room-at, received, good-papers, taken-here, taken-there}
+use Rattle.demands.proofs.SoundLaws.{taken-here, taken-there}
 use Rattle.demands.proofs.StartLaws.{sound-next}
 use Rattle.demands.proofs.SaidLaws.{step-legal}
 use Rattle.demands.proofs.GoingLaws.{values-go, values-come}
@@ -138,8 +138,7 @@ module _ (c : Crew) (w : Allowed c) where
 
       made : makeValuesOf (from .end) (c .tables sender) (from .marks) n room ≡ good sent (length sent)
       made =
-          values-by (c .papers) (good-papers c w) (from .end) (s-from .envelope) (s-from .program) (s-from .few) (c .tables sender) (from .marks)
-          (w .shapes sender (site-few b right-there)) (room-at c w (s .made) sender (site-few b right-there) from s-from) n room
+          values-by c w (s .made) sender (site-few b right-there) from s-from n room
           ∙ values-go (c .papers) (from .end) (c .tables sender) (from .marks) n room few (rw (s-from .place) (at-own b right-there))
           (omega (arith, ready .applied sender b (site-few b right-there) (at-own b right-there))) sent-few
 

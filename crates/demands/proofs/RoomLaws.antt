@@ -37,7 +37,8 @@ use Rattle.demands.specs.Link.{Crew, Allowed, State, Bears, openedAt, st
 use Rattle.demands.specs.Link.Event.{makesValues, makesRows, comes}
 use Rattle.demands.specs.DemandThree.{LowerMade, Lower}
 use Rattle.demands.specs.DemandThree.Made.{values, rows}
-use Rattle.demands.proofs.SoundLaws.{SoundAt, Sound, Change, changes, received, taken-here, taken-at, rows-any}
+use Rattle.demands.proofs.TakenLaws.{SoundAt, Sound, received}
+use Rattle.demands.proofs.SoundLaws.{Change, changes, taken-here, taken-at, rows-any}
 use Rattle.demands.proofs.SoundLaws.Change.{refused, reduces, arrives}
 use Rattle.demands.proofs.StartLaws.{opened-end, made-cases, own-made}
 use Rattle.demands.proofs.SaidLaws.{steps-few, value-rows, rows-rows}

@@ -17,7 +17,7 @@ use Rattle.ends.specs.Messages.{valueMessage, rowMessage, secondOf, bodyOf, abo
 use Rattle.ends.specs.declared.messages.About.the-variants as about
 use Rattle.ends.proofs.MessageLaws.{about-step, about-rows, about-between, value-second, value-body, row-second}
 use Rattle.demands.specs.Link.{Crew, Allowed}
-use Rattle.demands.proofs.SoundLaws.{good-papers}
+use Rattle.demands.proofs.TakenLaws.{good-papers}
 use mathlib.Core.Bool.{true}
 
 module _ (c : Crew) (w : Allowed c) where

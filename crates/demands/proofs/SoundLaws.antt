@@ -18,11 +18,6 @@ use Rattle.ground.proofs.OutcomeLaws.{never}
 use Rattle.contents.specs.Parts.{relationCount}
 use Rattle.contents.specs.Sites.{isAt}
 use Rattle.contents.specs.Kept.{keptColumns}
-use Rattle.contents.specs.declared.envelope.Envelope.{Envelope}
-use Rattle.papers.specs.declared.programs.Program.{Program}
-use Rattle.papers.specs.Checks.{GoodPapers}
-use Rattle.papers.proofs.CheckLaws.{papers-sound}
-use Rattle.tables.specs.Offsets.{rowCount}
 use Rattle.semijoin.specs.Marks.{reducedBy}
 use Rattle.semijoin.proofs.PromiseLaws.{promise}
 use Rattle.ends.specs.Reducing.{stepCount, stepOf, placeOf}
@@ -35,41 +30,12 @@ use Rattle.ends.specs.declared.ends.End.{End}
 use Rattle.station.proofs.ReceivingLaws.{Taken, with-facts}
 use Rattle.station.proofs.CallLaws.{leaves-good, leaves-bad}
 use Rattle.ends.proofs.MessageLaws.{step-below, rows-below}
-use Rattle.answerer.specs.Stores.{SoundRows, OneOfEach}
+use Rattle.answerer.specs.Stores.{SoundRows}
 use Rattle.answerer.proofs.DeliveredLaws.{one-more}
 use Rattle.demands.specs.Link.{Crew, Allowed, State, Bears, withTaken, lentStore}
-use Rattle.demands.proofs.TakenLaws.{receive-by}
+use Rattle.demands.proofs.TakenLaws.{Kept, SoundAt, received}
 use Rattle.demands.proofs.RunLaws.{place-own, place-mono}
 use Rattle.demands.proofs.AppendedLaws.{held-map}
-
-module _ (c : Crew) where
-  abbrev e : Envelope
-  e = c .papers .envelope
-
-  abbrev p : Program
-  p = c .papers .program
-
-  -- a row message of this run that was made
-  abbrev pub Kept : List (List ℕ) → ℕ → List ℕ → Type 0
-  Kept made r m = List·Memᴰ m made × SoundRows (c .papers .envelope) (c .run) r m
-
--- ---- sound ends
-
-pub record SoundAt (c : Crew) (made : List (List ℕ)) (site : ℕ) (h : Held) : Type 0 where
-  pub envelope : h .end .envelope ≡ c .papers .envelope
-  pub program : h .end .program ≡ c .papers .program
-  pub place : h .end .site ≡ site
-  pub run : h .end .run ≡ c .run
-  pub eight : length (h .end .applied) ≡ 8
-  pub few : (r : ℕ) → r < relationCount (c .papers .envelope)
-      → getD (h .end .applied) r 0 ≤ placeOf (c .papers .program) r (stepCount (c .papers .program))
-  pub arrivals : length (h .end .arrived) ≡ 8
-  pub marks : length (h .marks) ≡ length (c .lent site)
-  pub used : h .end .used ≤ length (h .store)
-  pub stored : OneOfEach (c .papers .envelope) (Kept c made) (h .end .arrived) (take (h .end .used) (h .store))
-
-abbrev pub Sound : Crew → State → Type 0
-Sound c s = (site : ℕ) → site ≤ 7 → SoundAt c (s .made) site (s .at site)
 
 -- ---- what a message that comes does to a site
 
@@ -102,23 +68,11 @@ borne-run m run (rest, is) = ap runOf is
 held-is : (h : Held) (a : End) (b d : List ℕ) → h .end ≡ a → h .marks ≡ b → h .store ≡ d → h ≡ record { end = a; marks = b; store = d }
 held-is h a b d p q r = rw (← p, ← q, ← r) refl
 
-pub good-papers : (c : Crew) → Allowed c → GoodPapers (c .papers)
-good-papers c w = papers-sound (c .envelope) (c .program) (c .papers) (w .accepted .0) (w .accepted .1)
-
 module _ (c : Crew) (w : Allowed c) (made : List (List ℕ)) (site : ℕ) (small : site ≤ 7) (x : Held) (s : SoundAt c made site x) where
-  pub room-at : rowCount (c .papers .envelope) (c .tables site) ≤ length (x .marks)
-  room-at = omega (arith, w .marks site small, s .marks)
-
-  pub received : (store m : List ℕ)
-      → receiveOf (x .end) (c .tables site) (x .marks) store m ≡ receiveWith (c .papers) (x .end) (c .tables site) (x .marks) store m
-  received store m =
-      receive-by (c .papers) (good-papers c w) (x .end) (s .envelope) (s .program) (s .few) (c .tables site) (x .marks) (w .shapes site small)
-      room-at store m
-
   pub changes : (store m : List ℕ)
       → Change c site x store m
       (leaves (λ (h : Held). h) (record { end = x .end; marks = x .marks; store = store }) (receiveOf (x .end) (c .tables site) (x .marks) store m))
-  changes store m = go (receiveOf (x .end) (c .tables site) (x .marks) store m) (received store m)
+  changes store m = go (receiveOf (x .end) (c .tables site) (x .marks) store m) (received c w made site small x s store m)
     where
       go : (o : Outcome Held) → o ≡ receiveWith (c .papers) (x .end) (c .tables site) (x .marks) store m
           → Change c site x store m (leaves (λ (h : Held). h) (record { end = x .end; marks = x .marks; store = store }) o)

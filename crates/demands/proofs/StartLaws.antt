@@ -22,9 +22,10 @@ use Rattle.station.specs.Receiving.{receiveOf}
 use Rattle.station.proofs.CallLaws.{leaves-good}
 use Rattle.demands.specs.Link.{Crew, Allowed, State, Bears, openingAt, openedAt, Event, Possible, withMade, lentStore, after}
 use Rattle.demands.specs.Link.Event.{makesValues, makesRows, comes}
+use Rattle.demands.proofs.TakenLaws.{SoundAt, Sound}
 use Rattle.answerer.specs.Stores.OneOfEach.{none}
 use Rattle.demands.proofs.AppendedLaws.{none-due}
-use Rattle.demands.proofs.SoundLaws.{SoundAt, Sound, changes, stays-sound, sound-more, taken-at, taken-made}
+use Rattle.demands.proofs.SoundLaws.{changes, stays-sound, sound-more, taken-at, taken-made}
 
 -- ---- opened
 

@@ -1,63 +1,101 @@
--- A call at an end of the crew goes by the crew's papers: they stand in the end as they read back, so the end is sound and the call
+-- A call at an end of the crew goes by the crew's papers: they stand in the end as they read back, so the end is sound, and the call
 -- comes to its own tests.
-use mathlib.Core.Path.{_≡_, ap, ap₂, _∙_}
+use mathlib.Core.Path.{_≡_, sym, subst, ap, ap₂, _∙_}
 use mathlib.Core.Bool.{true}
-use mathlib.Core.List.{List, [], _∷_}
+use mathlib.Core.List.{List, List·Memᴰ}
 use Prim.Native.Nat.{ℕ, _≤_, _<_}
-use lib.ListN.{length, getD}
-use Rattle.ground.specs.Outcome.{Outcome, next}
+use native.Mathlib.Omega.{arith}
+use lib.ListN.{length, getD, take}
 use Rattle.ground.specs.Outcome.Outcome.{good}
-use Rattle.ground.specs.Refusing.{test, judged}
-use Rattle.ground.proofs.RefusingLaws.{judged-none}
-use Rattle.fields.specs.Refusals.{beyondLimit}
 use Rattle.contents.specs.Parts.{relationCount}
+use Rattle.contents.specs.declared.envelope.Envelope.{Envelope}
 use Rattle.papers.specs.Programs.{programBytes}
-use Rattle.papers.specs.Checks.{papersOf, GoodPapers}
+use Rattle.papers.specs.Checks.{GoodPapers}
+use Rattle.papers.specs.declared.programs.Program.{Program}
 use Rattle.papers.specs.declared.checks.Papers.{Papers}
-use Rattle.papers.proofs.CheckLaws.{papers-complete}
+use Rattle.papers.proofs.CheckLaws.{papers-sound}
 use Rattle.tables.specs.Offsets.{rowCount}
-use Rattle.tables.specs.Shape.{shaped, marksTests}
-use Rattle.tables.proofs.JudgedLaws.{marks-pass}
+use Rattle.tables.specs.Shape.{shaped}
 use Rattle.ends.specs.Reducing.{stepCount, placeOf}
-use Rattle.ends.specs.Ends.{overApplied, soundEnd, usable}
+use Rattle.ends.specs.Ends.{papersIn, soundEnd, Sound as SoundEnd}
+use Rattle.ends.proofs.SoundLaws.{sound-taken, sound-call}
 use Rattle.station.specs.Making.{valuesWith, makeValuesOf, rowsWith, makeRowsOf}
-use Rattle.station.specs.Receiving.{receiveWith, receiveOf}
-use Rattle.ends.specs.declared.ends.End.{End}
-use Rattle.ends.proofs.SoundLaws.{not-over}
+use Rattle.station.specs.Receiving.{Held, receiveWith, receiveOf}
+use Rattle.station.proofs.MakingLaws.{sound-values, sound-rows}
+use Rattle.answerer.specs.Stores.{SoundRows, OneOfEach}
+use Rattle.demands.specs.Link.{Crew, Allowed, State}
 
-module _ (q : Papers) (g : GoodPapers q) (x : End) (a : x .envelope ≡ q .envelope) (b : x .program ≡ q .program)
-    (few : (r : ℕ) → r < relationCount (q .envelope) → getD (x .applied) r 0 ≤ placeOf (q .program) r (stepCount (q .program))) where
-  pub sound-end : (u : ℕ) × (soundEnd x ≡ good q u)
-  unfolding soundEnd
-  sound-end = (
-    length (programBytes (q .program)),
-    ap
-        (λ (o : Outcome Papers).
-        next o
-        (λ q p. judged (test (overApplied (q .program) (relationCount (q .envelope)) (x .applied)) beyondLimit 0 ∷ []) (good q p)))
-        (ap₂ papersOf a b ∙ papers-complete q g)
-        ∙ rw (not-over (q .program) (relationCount (q .envelope)) (x .applied) few),
+-- a row message of this run that was made
+abbrev pub Kept : Crew → List (List ℕ) → ℕ → List ℕ → Type 0
+Kept c made r m = List·Memᴰ m made × SoundRows (c .papers .envelope) (c .run) r m
+
+-- ---- sound ends
+
+pub record SoundAt (c : Crew) (made : List (List ℕ)) (site : ℕ) (h : Held) : Type 0 where
+  pub envelope : h .end .envelope ≡ c .papers .envelope
+  pub program : h .end .program ≡ c .papers .program
+  pub place : h .end .site ≡ site
+  pub run : h .end .run ≡ c .run
+  pub eight : length (h .end .applied) ≡ 8
+  pub few : (r : ℕ) → r < relationCount (c .papers .envelope)
+      → getD (h .end .applied) r 0 ≤ placeOf (c .papers .program) r (stepCount (c .papers .program))
+  pub arrivals : length (h .end .arrived) ≡ 8
+  pub marks : length (h .marks) ≡ length (c .lent site)
+  pub used : h .end .used ≤ length (h .store)
+  pub stored : OneOfEach (c .papers .envelope) (Kept c made) (h .end .arrived) (take (h .end .used) (h .store))
+
+abbrev pub Sound : Crew → State → Type 0
+Sound c s = (site : ℕ) → site ≤ 7 → SoundAt c (s .made) site (s .at site)
+
+pub good-papers : (c : Crew) → Allowed c → GoodPapers (c .papers)
+good-papers c w = papers-sound (c .envelope) (c .program) (c .papers) (w .accepted .0) (w .accepted .1)
+
+-- ---- so its calls go by these papers
+
+module _ (c : Crew) (w : Allowed c) (made : List (List ℕ)) (site : ℕ) (small : site ≤ 7) (x : Held) (s : SoundAt c made site x) where
+  pub room-at : rowCount (c .papers .envelope) (c .tables site) ≤ length (x .marks)
+  room-at = omega (arith, w .marks site small, s .marks)
+
+  same : papersIn (x .end) ≡ c .papers
+  same = ap₂ (λ (f : Envelope) (g : Program). record { envelope = f; program = g }) (s .envelope) (s .program)
+
+  sound : SoundEnd (x .end) (length (x .store))
+  sound =
+      record {
+        papers = subst GoodPapers (sym same) (good-papers c w);
+        counts = rw (s .envelope, s .program) (s .few);
+        eight = (s .eight, s .arrivals);
+        held = s .used;
+      }
+
+  shape : shaped (x .end .envelope) (c .tables site) ≡ true
+  shape = rw (s .envelope) (w .shapes site small)
+
+  enough : rowCount (x .end .envelope) (c .tables site) ≤ length (x .marks)
+  enough = rw (s .envelope) room-at
+
+  pub end-taken : (u : ℕ) × (soundEnd (x .end) ≡ good (c .papers) u)
+  end-taken = (
+    length (programBytes (x .end .program)),
+    sound-taken (x .end) (length (x .store)) sound ∙ ap (λ (q : Papers). good q (length (programBytes (x .end .program)))) same,
   )
 
-  module _ (words marks : List ℕ) (shape : shaped (q .envelope) words ≡ true) (room : rowCount (q .envelope) words ≤ length marks) where
-    usable-end : (u : ℕ) × (usable x words (length marks) ≡ good q u)
-    unfolding usable
-    usable-end =
-        let (u, h) = sound-end in (
-          u,
-          ap (λ (o : Outcome Papers). next o (λ q p. judged (marksTests (q .envelope) words (length marks)) (good q p))) h
-              ∙ judged-none (marksTests (q .envelope) words (length marks)) (good q u)
-              (marks-pass (q .envelope) words (length marks) .1 (shape, room)),
-        )
+  pub values-by : (n room : ℕ)
+      → makeValuesOf (x .end) (c .tables site) (x .marks) n room ≡ valuesWith (c .papers) (x .end) (c .tables site) (x .marks) n room
+  values-by n room =
+      sound-values (x .end) (length (x .store)) sound (c .tables site) (x .marks) shape enough n room
+      ∙ ap (λ (q : Papers). valuesWith q (x .end) (c .tables site) (x .marks) n room) same
 
-    pub values-by : (n room : ℕ) → makeValuesOf x words marks n room ≡ valuesWith q x words marks n room
-    unfolding makeValuesOf
-    values-by n room = ap (λ (o : Outcome Papers). next o (λ q _. valuesWith q x words marks n room)) (usable-end .1)
+  pub rows-by : (r room : ℕ)
+      → makeRowsOf (x .end) (c .tables site) (x .marks) r room ≡ rowsWith (c .papers) (x .end) (c .tables site) (x .marks) r room
+  rows-by r room =
+      sound-rows (x .end) (length (x .store)) sound (c .tables site) (x .marks) shape enough r room
+      ∙ ap (λ (q : Papers). rowsWith q (x .end) (c .tables site) (x .marks) r room) same
 
-    pub rows-by : (r room : ℕ) → makeRowsOf x words marks r room ≡ rowsWith q x words marks r room
-    unfolding makeRowsOf
-    rows-by r room = ap (λ (o : Outcome Papers). next o (λ q _. rowsWith q x words marks r room)) (usable-end .1)
-
-    pub receive-by : (store m : List ℕ) → receiveOf x words marks store m ≡ receiveWith q x words marks store m
-    unfolding receiveOf
-    receive-by store m = ap (λ (o : Outcome Papers). next o (λ q _. receiveWith q x words marks store m)) (usable-end .1)
+  pub received : (store m : List ℕ)
+      → receiveOf (x .end) (c .tables site) (x .marks) store m ≡ receiveWith (c .papers) (x .end) (c .tables site) (x .marks) store m
+  unfolding receiveOf
+  received store m =
+      sound-call (x .end) (length (x .store)) sound (c .tables site) (length (x .marks)) shape enough
+      (λ q. receiveWith q (x .end) (c .tables site) (x .marks) store m)
+      ∙ ap (λ (q : Papers). receiveWith q (x .end) (c .tables site) (x .marks) store m) same

@@ -6,14 +6,14 @@ use mathlib.Core.Bool.{Bool, true, false, false≢true}
 use mathlib.Core.List.{List, [], _∷_}
 use Prim.Native.Nat.{ℕ, zero, suc, _≤_, _<_, _^_}
 use native.Mathlib.Omega.{arith}
-use lib.ListN.{length, replicate}
+use lib.ListN.{replicate}
 use lib.Dec.{eqb}
 use borrow.Author.Tests.{eqb-true}
 use Rattle.ground.specs.Tests.{pick}
 use Rattle.ground.specs.Lists.{Every}
 use Rattle.ground.specs.Outcome.Outcome.{good}
 use Rattle.entries.specs.Places.{place, noPlace}
-use Rattle.entries.specs.Relations.{noColumn, noRelation, relationWith}
+use Rattle.entries.specs.Relations.{noColumn, noRelation}
 use Rattle.entries.specs.Clauses.{noClause}
 use Rattle.entries.specs.declared.places.Place.{Place}
 use Rattle.contents.proofs.SiteLaws.{at-none}

@@ -38,10 +38,10 @@ use Rattle.demands.specs.Link.{Crew, Allowed, State, Bears, start, Event
 use Rattle.demands.specs.Link.Event.{makesValues, makesRows, comes}
 use Rattle.demands.specs.DemandThree.{runAfter, UpperMade, Upper}
 use Rattle.demands.specs.DemandThree.Made.{values, rows}
+use Rattle.demands.proofs.TakenLaws.{SoundAt, Sound, values-by, rows-by}
 use Rattle.station.proofs.MakingLaws.{with-values, with-rows}
-use Rattle.demands.proofs.TakenLaws.{values-by, rows-by}
 use Rattle.demands.proofs.RunLaws.{place-own, place-mono, run-none, run-step, run-still}
-use Rattle.demands.proofs.SoundLaws.{SoundAt, Sound, Change, room-at, good-papers, changes, taken-at, taken-made}
+use Rattle.demands.proofs.SoundLaws.{Change, changes, taken-at, taken-made}
 use Rattle.demands.proofs.SoundLaws.Change.{refused, reduces, arrives}
 use Rattle.demands.proofs.StartLaws.{opened-end, opened-marks, no-steps, made-cases, own-made}
 use Rattle.demands.proofs.SaidLaws.{value-step, rows-step}
@@ -96,8 +96,7 @@ module _ (c : Crew) (w : Allowed c) where
     upper-values : (n room : ℕ) → makeValuesOf (x .end) (c .tables site) (x .marks) n room ≡ good m u → UpperMade c m
     upper-values n room h =
         let b = stepOf p n .right in
-        let by = values-by (c .papers) (good-papers c w) (x .end) (s .envelope) (s .program) (s .few) (c .tables site) (x .marks) (w .shapes site small)
-        (room-at c w made site small x s) n room in
+        let by = values-by c w made site small x s n room in
         let (made-by, _, _) = with-values (x .end) (c .tables site) (x .marks) n room (c .papers) m u (sym by ∙ h) in
         let there : isAt e site (b .relation) ≡ true = rw (s .place) at (made-by .here) in
         let fewer : FewerValues (risingValues e (c .tables site) (x .marks) b) (valuesOf e (c .whole) (runAfter c n) b) =
@@ -108,8 +107,7 @@ module _ (c : Crew) (w : Allowed c) where
 
     upper-rows : (r room : ℕ) → makeRowsOf (x .end) (c .tables site) (x .marks) r room ≡ good m u → UpperMade c m
     upper-rows r room h =
-        let by = rows-by (c .papers) (good-papers c w) (x .end) (s .envelope) (s .program) (s .few) (c .tables site) (x .marks) (w .shapes site small)
-        (room-at c w made site small x s) r room in
+        let by = rows-by c w made site small x s r room in
         let (made-by, _, _) = with-rows (x .end) (c .tables site) (x .marks) r room (c .papers) m u (sym by ∙ h) in
         let there : isAt e site r ≡ true = rw (s .place) at (made-by .here) in
         rows r (c .tables site) (x .marks) (here-below e site r there) (rw (s .run) at (made-by .is)) (w .parts site r there) (up r (stepCount p) there (made-by .ready))
