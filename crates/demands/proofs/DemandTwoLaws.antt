@@ -111,6 +111,7 @@ demand-two =
       run = λ e fits p small words marks after u. call-promise .run-exact e p words marks fits small after u;
       run-folds = λ e p words marks. call-promise .run-is e p words marks;
       local = λ e words marks fits r i h. promise e .opens words marks (λ _. true) fits r i h;
+      passing = λ e r row. promise e .passes-exactly r row;
       step = step-exact;
       step-others = step-stays;
       step-answer = λ e words marks s l. call-promise .step-answer e words s marks (path-legal e s l);

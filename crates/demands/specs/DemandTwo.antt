@@ -10,7 +10,7 @@
 use Rattle.demands.specs.Words.{ℕ, _+_, _≤_, _<_, _≡_, true, List, map, List·Memᴰ, _↔_, length, take, Every, filter, each, combinations, sum, Bytes, good, Taken, clausesOf, targetsOf, Envelope, Within, tidy, Fits}
 use Rattle.demands.specs.Words.{readEnvelope, checkEnvelope, envelopeBytes, column, PathBetween, edges, isPlace, legal, legalSteps, Row, meetsAll, targetRow, tablesOf, answerRows, answerWords, Step}
 use Rattle.demands.specs.Words.{stepsOf, readProgram, checkProgram, programBytes, Acceptable, tidyProgram, ProgramFits, Program, localProfile, plainCosts, assemblyAt, profileAfter, kindOf, linesOf, costsIn}
-use Rattle.demands.specs.Words.{papersOf, Papers, estimateOf, Estimate, planOf, PlanKept, countIn, rowCount, answerKept, shaped, passes, openedIn, stepped, steppedAll, runMarks, runOutcome, rowOf, wordOf, keptAt, answerOutcome}
+use Rattle.demands.specs.Words.{papersOf, Papers, estimateOf, Estimate, planOf, PlanKept, countIn, rowCount, answerKept, shaped, passes, Passing, openedIn, stepped, steppedAll, runMarks, runOutcome, rowOf, wordOf, keptAt, answerOutcome}
 
 -- "R<A=B]S: R and S different, R.A and S.B on a path": along clauses, either way, from column to column or constant
 pub record OnPath (e : Envelope) (s : Step) : Type 0 where
@@ -49,8 +49,10 @@ pub record DemandTwo : Type 0 where
       ↔ (Within e × Acceptable e p × (shaped e words ≡ true) × (rowCount e words ≤ length marks) × (after ≡ runMarks e p words marks) × (u ≡ 0))
   pub run-folds : (e : Envelope) (p : Program) (words marks : List ℕ)
       → runMarks e p words marks ≡ steppedAll e words (stepsOf p) (openedIn e words (λ _. true) marks)
+  -- at the start a row is kept where it meets every selection and equality that a path gives
   pub local : (e : Envelope) (words marks : List ℕ) → rowCount e words ≤ length marks → (r i : ℕ) → i < countIn e words r
       → keptAt e words (openedIn e words (λ _. true) marks) r i ≡ passes e r (rowOf e words r i)
+  pub passing : (e : Envelope) (r : ℕ) (row : Row) → (passes e r row ≡ true) ↔ Passing e r row
   -- a step keeps exactly the kept rows of R whose A occurs in column B of the kept rows of S, and of other relations all
   pub step : (e : Envelope) (words marks : List ℕ) (s : Step) (i : ℕ)
       → (keptAt e words (stepped e words s marks) (s .left .relation) i ≡ true)

@@ -20,7 +20,7 @@ pub use Rattle.estimates.specs.{Estimate.costsIn, Estimate.estimateOf, declared
 pub use Rattle.planner.specs.{Plan.planOf, Promise.PlanKept}
 pub use Rattle.tables.specs.{Offsets.countIn, Offsets.rowCount, Shape.shaped, Shape.marksTests, Shape.columnTests, Values.valuesOf, Values.valuesOutcome}
 pub use Rattle.tables.specs.{Values.gatheredIn, Rows.rowOf, Rows.wordOf, Rows.keptAt, Rows.SameRows, Rows.answerKept}
-pub use Rattle.semijoin.specs.{Local.passes, Local.openedIn, Local.openOutcome, Marks.reduceOutcome, Marks.marksAfter, Run.stepped, Run.steppedAll, Run.runMarks}
+pub use Rattle.semijoin.specs.{Local.passes, Local.Passing, Local.openedIn, Local.openOutcome, Marks.reduceOutcome, Marks.marksAfter, Run.stepped, Run.steppedAll, Run.runMarks}
 pub use Rattle.semijoin.specs.{Run.runOutcome, Promise.FewerRows, Promise.FewerValues, Promise.Covers}
 pub use Rattle.semijoin.specs.{Promise.Holds}
 pub use Rattle.ends.specs.{Reducing.stepCount, Reducing.stepOf, Reducing.placeOf, Ends.Marked, Ends.noEnd, Ends.appliedOf, Ends.hasArrived, Ends.soundEnd, Ends.usable}

@@ -1,7 +1,8 @@
--- Local operations: a row of a combination that meets all clauses passes them, and opening marks the rows that pass.
+-- Local operations: which rows pass them, that a row of a combination that meets all clauses does, and that opening marks the rows that pass.
 use mathlib.Core.Path.{_≡_, refl, sym, ap, _∙_}
 use mathlib.Core.Bool.{Bool, true, false, _&&_}
 use mathlib.Core.List.{List, [], _∷_, _++_, append-assoc}
+use mathlib.Core.Logic.{_↔_}
 use Prim.Native.Nat.{ℕ, zero, suc, _+_, _-_, _≤_, _<_}
 use native.Mathlib.Nat.{zero-add}
 use native.Mathlib.Numerals.{add-one}
@@ -9,26 +10,59 @@ use native.Mathlib.Omega.{arith}
 use lib.ListN.{length, getD, take, drop, length-map, length-append}
 use lib.Seq.{length-sets, sets-eq, take-at, drop-at}
 use lib.Dec.{eqb}
-use borrow.Author.Tests.{eq-eqb}
+use borrow.Author.Tests.{eqb-true, eq-eqb}
 use Rattle.ground.specs.Tests.{pick}
-use Rattle.ground.specs.Lists.{each, below, numbersFrom}
+use Rattle.ground.specs.Lists.{all, each, below, numbersFrom}
 use Rattle.ground.proofs.CountLaws.{left-suc}
-use Rattle.ground.proofs.TestLaws.{and-both}
-use Rattle.ground.proofs.ListLaws.{all-of, each-append, getD-map}
+use Rattle.ground.proofs.TestLaws.{and-left, and-right, and-both}
+use Rattle.ground.proofs.ListLaws.{all-at, all-of, each-append, getD-map}
 use Rattle.ground.proofs.NumbersLaws.{numbers-append, each-below}
 use Rattle.ground.proofs.PuttingLaws.{sets-behind}
+use Rattle.entries.specs.Places.{place}
 use Rattle.contents.specs.Parts.{relationCount}
 use Rattle.contents.specs.declared.envelope.Envelope.{Envelope}
+use Rattle.paths.specs.Paths.{column, constant, onPath}
 use Rattle.paths.specs.Meaning.{Row, wordIn}
 use Rattle.paths.specs.Implied.{impliedSelections, impliedEqualities}
 use Rattle.paths.specs.declared.implied.Selected.{Selected}
 use Rattle.paths.specs.declared.implied.Equal.{Equal}
-use Rattle.paths.proofs.ImpliedLaws.{selection-met, equality-met}
+use Rattle.paths.proofs.ImpliedLaws.{selections-member, equalities-member, selection-met, equality-met}
+use Rattle.paths.proofs.PathLaws.{on-path}
 use Rattle.tables.specs.Offsets.{countIn, rowsBefore, firstMark, rowCount, rowsAt, marksAt, marksOver}
-use Rattle.semijoin.specs.Local.{passesBy, passes, openingMark, openedAt, opened, openedIn}
+use Rattle.semijoin.specs.Local.{passesBy, passes, Passing, openingMark, openedAt, opened, openedIn}
 use Rattle.tables.specs.Rows.{isKept, rowOf, keptAt}
 use Rattle.semijoin.specs.Promise.{Needed}
 use Rattle.tables.proofs.OffsetLaws.{rowsAt-length, rows-none, rows-more}
+
+-- a row passes exactly where it meets what every path gives
+pub passes-exactly : (e : Envelope) (r : ℕ) (row : Row) → (passes e r row ≡ true) ↔ Passing e r row
+unfolding passes passesBy
+passes-exactly e r row = (from, into)
+  where
+    selects : Selected → Bool
+    selects s = eqb (wordIn row (s .column)) (s .value)
+
+    equals : Equal → Bool
+    equals s = eqb (wordIn row (s .left)) (wordIn row (s .right))
+
+    from : (all selects (impliedSelections e r) && all equals (impliedEqualities e r)) ≡ true → Passing e r row
+    from t =
+        record {
+          selections = λ c d v h n p. eqb-true _ _ (all-at selects (impliedSelections e r) (and-left _ _ t)
+              (selections-member (onPath e) e r c v .1 (h, (d, n, on-path e (column (place r c)) (constant d v) .1 p))));
+          equalities = λ a b h k p. eqb-true _ _ (all-at equals (impliedEqualities e r) (and-right (all selects (impliedSelections e r)) _ t)
+              (equalities-member (onPath e) e r a b .1 (h, k, on-path e (column (place r a)) (column (place r b)) .1 p)));
+        }
+
+    into : Passing e r row → (all selects (impliedSelections e r) && all equals (impliedEqualities e r)) ≡ true
+    into q =
+        and-both
+        (all-of selects (impliedSelections e r) λ s m.
+        let (h, (d, n, t)) = selections-member (onPath e) e r (s .column) (s .value) .0 m in
+        eq-eqb _ _ (q .selections (s .column) d (s .value) h n (on-path e (column (place r (s .column))) (constant d (s .value)) .0 t)))
+        (all-of equals (impliedEqualities e r) λ s m.
+        let (h, k, t) = equalities-member (onPath e) e r (s .left) (s .right) .0 m in
+        eq-eqb _ _ (q .equalities (s .left) (s .right) h k (on-path e (column (place r (s .left))) (column (place r (s .right))) .0 t)))
 
 -- a row that the answer needs passes
 pub needed-passes : (e : Envelope) (whole : List ℕ) (r : ℕ) (row : Row) → Needed e whole r row → passes e r row ≡ true

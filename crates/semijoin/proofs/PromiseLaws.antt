@@ -32,7 +32,7 @@ use Rattle.tables.proofs.ShapeLaws.{place-relation}
 use Rattle.tables.proofs.RowLaws.{past-last}
 use Rattle.tables.proofs.ValueLaws.{values-of, values-from, same-values}
 use Rattle.semijoin.proofs.MarkLaws.{sieved-at, sieved-past}
-use Rattle.semijoin.proofs.LocalLaws.{needed-passes, opened-byte, opened-kept, opened-past, opened-as-many}
+use Rattle.semijoin.proofs.LocalLaws.{passes-exactly, needed-passes, opened-byte, opened-kept, opened-past, opened-as-many}
 use Rattle.semijoin.proofs.AnswerLaws.{delivered}
 use Rattle.semijoin.proofs.ReducedLaws.{reduced-length, reduced-own, reduced-byte, reduced-other, reduced-past, removed-rows, reduced-alike}
 
@@ -172,6 +172,7 @@ module _ (e : Envelope) where
         opens = λ words marks here fits r i h. opened-kept e words here marks fits r i (relation-inside words r i h) h;
         opens-past = λ words marks here fits. opened-past e words here marks fits;
         opens-as-many = λ words marks here. opened-as-many e words here marks;
+        passes-exactly = passes-exactly e;
         needed-passes = λ whole r row n. needed-passes e whole r row n;
         answer-stays = λ whole words marks same covers. delivered e whole words marks same covers;
       }

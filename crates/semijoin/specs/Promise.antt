@@ -19,7 +19,7 @@ use Rattle.tables.specs.Offsets.{countIn, rowCount, marksAt}
 use Rattle.tables.specs.Rising.{among}
 use Rattle.tables.specs.Rows.{rowOf, wordOf, keptAt, SameRows, keptRows}
 use Rattle.tables.specs.Values.{valuesOf, risingValues}
-use Rattle.semijoin.specs.Local.{passes}
+use Rattle.semijoin.specs.Local.{passes, Passing}
 
 -- what these marks keep of a relation, those keep; what is among these values is among those
 abbrev pub FewerRows : Envelope → ℕ → List ℕ → List ℕ → List ℕ → List ℕ → Type 0
@@ -93,7 +93,8 @@ pub record Promise (e : Envelope) (reduced : List ℕ → List ℕ → Place →
   pub removes : (words values marks : List ℕ) (a : Place)
       → length (keptRows e words marks (a .relation))
       ≡ length (keptRows e words (reduced words values a marks) (a .relation)) + removed words values a marks
-  -- ---- opening: 1 where a row is here and passes the local operations, else 0; bytes past the last row stay; a needed row passes
+  -- ---- opening: 1 where a row is here and passes the local operations, else 0; bytes past the last row stay. A row passes
+  -- exactly where it meets every selection and equality that a path gives; a needed row does
 
   pub opens-bytes : (words marks : List ℕ) (here : ℕ → Bool) → rowCount e words ≤ length marks → (r i : ℕ) → i < countIn e words r
       → getD (marksAt e words r (opened words here marks)) i 0 ≡ pick (here r && passes e r (rowOf e words r i)) 1 0
@@ -102,6 +103,7 @@ pub record Promise (e : Envelope) (reduced : List ℕ → List ℕ → Place →
   pub opens-past : (words marks : List ℕ) (here : ℕ → Bool) → rowCount e words ≤ length marks
       → drop (rowCount e words) (opened words here marks) ≡ drop (rowCount e words) marks
   pub opens-as-many : (words marks : List ℕ) (here : ℕ → Bool) → length (opened words here marks) ≡ length marks
+  pub passes-exactly : (r : ℕ) (row : Row) → (passes e r row ≡ true) ↔ Passing e r row
   pub needed-passes : (whole : List ℕ) (r : ℕ) (row : Row) → Needed e whole r row → passes e r row ≡ true
   -- ---- the answer, and its order, where each relation's marks keep every needed row
 
