@@ -18,6 +18,7 @@ use Rattle.paths.specs.Steps.{legal, legality, legalityOf}
 use Rattle.paths.specs.declared.steps.Step.{Step}
 use Rattle.paths.specs.declared.steps.Legality.{Legality}
 use Rattle.paths.specs.declared.steps.Legality.the-variants as Legality
+use Rattle.papers.specs.Checks.{papersOf}
 use Rattle.papers.specs.Programs.{checkProgram, programBytes}
 use Rattle.tables.specs.Shape.{marksTests, columnTests}
 use Rattle.tables.proofs.CallLaws.{values-number as gathered-number, values-stay}
