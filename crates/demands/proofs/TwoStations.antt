@@ -52,7 +52,7 @@ use Rattle.tables.specs.Rising.{isRising}
 use Rattle.tables.specs.Rows.{keptOf, keptRows}
 use Rattle.tables.specs.Shape.{shaped}
 use Rattle.tables.specs.Values.{valuesOver, valuesOf, risingValues}
-use Rattle.semijoin.specs.Local.{passesBy, passes, openingMark, openedAt, opened}
+use Rattle.semijoin.specs.Local.{passesBy, passes, openingMark, openedAt, opened, openedIn}
 use Rattle.semijoin.specs.Marks.{sieved, sievedOver, reducedBy}
 use Rattle.ends.specs.Ends.{overAt, overApplied, soundEnd, usable, startOf}
 use Rattle.ends.specs.Messages.{valueMessage, rowMessage, aboutOf, counted, soundValues, rowsOf}
@@ -101,7 +101,7 @@ pub computed : (finish .made
     × (finish .at 1 .marks ≡ 1 ∷ 1 ∷ 0 ∷ 9 ∷ []) × (finish .at 2 .marks ≡ 1 ∷ 1 ∷ 1 ∷ 0 ∷ [])
     × (assembledOutcome (answering crew finish .end) (lentStore (answering crew finish) []) (replicate 6 0)
     ≡ good (11 ∷ 5 ∷ 12 ∷ 7 ∷ 12 ∷ 7 ∷ []) 0)
-unfolding littleEnd bytesOf padded numbersFrom numbered insert rising firstFrom numberAt numberThat marked markOf versionAt headOf domainOf selectionAt joined joinAt clauseAt kindBytes samePlace placeAt placeBytes columnsOf columnAt columnBytes columnsThen relationAt relationBytes names kept keptColumns firstBare sizesOf relationsOf clausesOf targetsOf columnsIn withVersion withSizes withRelations withClauses withTargets siteOf isAt holds filled listInto ended targetsThen clausesThen relationsThen sizesThen envelopeFrom envelopeBytes checkEnvelope constantsOf selectionsBy equalitiesBy rowsIn tablesIn tablesOf meetsAll answerOn answerRows edges onPath isPlace legalBy stepBytes papersOf stepsOf stepAt endedProgram stepsThen programBy readProgram programBytes checkProgram countIn wordsBefore rowsBefore firstWord rowsOver marksOver rowsAt marksAt isRising keptOf keptRows shaped valuesOver valuesOf risingValues passesBy passes openingMark openedAt opened sieved sievedOver reducedBy overAt overApplied soundEnd usable startOf valueMessage rowMessage aboutOf counted soundValues rowsOf stepOf reduces reducing placeOf isMissing firstMissing missingIn leaves fitted valuesWith makeValuesOf sentRows rowsWith makeRowsOf openWith openOf appliedTo withApplied withArrived valuesTaken rowsTaken taken-of receiveWith receiveOf firstAwaited answerFrom assembled assembledWith assembledOutcome wordFrom rowFrom tableFrom tablesBehind standsIn layStored metBy messageAt dueIn laysFrom sourceHeld sourceOf answerFits endAt withMade withTaken after inTurn inOrder
+unfolding littleEnd bytesOf padded numbersFrom numbered insert rising firstFrom numberAt numberThat marked markOf versionAt headOf domainOf selectionAt joined joinAt clauseAt kindBytes samePlace placeAt placeBytes columnsOf columnAt columnBytes columnsThen relationAt relationBytes names kept keptColumns firstBare sizesOf relationsOf clausesOf targetsOf columnsIn withVersion withSizes withRelations withClauses withTargets siteOf isAt holds filled listInto ended targetsThen clausesThen relationsThen sizesThen envelopeFrom envelopeBytes checkEnvelope constantsOf selectionsBy equalitiesBy rowsIn tablesIn tablesOf meetsAll answerOn answerRows edges onPath isPlace legalBy stepBytes papersOf stepsOf stepAt endedProgram stepsThen programBy readProgram programBytes checkProgram countIn wordsBefore rowsBefore firstWord rowsOver marksOver rowsAt marksAt isRising keptOf keptRows shaped valuesOver valuesOf risingValues passesBy passes openingMark openedAt opened openedIn sieved sievedOver reducedBy overAt overApplied soundEnd usable startOf valueMessage rowMessage aboutOf counted soundValues rowsOf stepOf reduces reducing placeOf isMissing firstMissing missingIn leaves fitted valuesWith makeValuesOf sentRows rowsWith makeRowsOf openWith openOf appliedTo withApplied withArrived valuesTaken rowsTaken taken-of receiveWith receiveOf firstAwaited answerFrom assembled assembledWith assembledOutcome wordFrom rowFrom tableFrom tablesBehind standsIn layStored metBy messageAt dueIn laysFrom sourceHeld sourceOf answerFits endAt withMade withTaken after inTurn inOrder
 computed = (refl, refl, refl, refl)
 
 -- ---- the crew is one that demand 3 speaks of
