@@ -86,7 +86,7 @@ fn number_from(s: &[u8], at: usize, width: Width) -> NumberRead
 }
 
 // The number at a reader's position: the reader is taken apart.
-pub fn number<'a>(reader: Reader<'a>, width: Width) -> NumberRead
+pub(crate) fn number<'a>(reader: Reader<'a>, width: Width) -> NumberRead
     ensures { λ r. ⌜ r ≡ shownNumber (numberAt (bytesWide width) (now (reader .entry .bytes)) (reader .entry .at)) ⌝ }
 {
     number_from(reader.bytes, reader.at, width)
@@ -133,14 +133,14 @@ fn mark_from(s: &[u8], at: usize, a: u8, b: u8, c: u8) -> Verdict
 }
 
 // Whether a mark stands at a reader's position: the reader is taken apart.
-pub fn mark<'a>(reader: Reader<'a>, a: u8, b: u8, c: u8) -> Verdict
+pub(crate) fn mark<'a>(reader: Reader<'a>, a: u8, b: u8, c: u8) -> Verdict
     ensures { λ r. ⌜ r ≡ verdictOf (markAt (a ∷ b ∷ c ∷ []) (now (reader .entry .bytes)) (reader .entry .at)) ⌝ }
 {
     mark_from(reader.bytes, reader.at, a, b, c)
 }
 
 // The reader with another position: past what was read.
-pub fn moved<'a>(reader: Reader<'a>, at: usize) -> Reader<'a>
+pub(crate) fn moved<'a>(reader: Reader<'a>, at: usize) -> Reader<'a>
     ensures { λ r. ⌜ (r .bytes ≡ reader .entry .bytes) × (r .at ≡ at) ⌝ }
 {
     Reader {
