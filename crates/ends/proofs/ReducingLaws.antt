@@ -1,18 +1,18 @@
--- The laws of the order of a relation's steps: which there are below a number, and what an answer says.
+-- The laws of the order of a relation's steps: which there are below a number, what an answer says, and what it says of a step itself.
 use mathlib.Core.Path.{_≡_, refl, ap, sym, _∙_}
 use mathlib.Core.Bool.{Bool, true, false}
-use mathlib.Core.List.{List}
+use mathlib.Core.List.{List, List·Memᴰ, [], _∷_, _++_}
 use Prim.Native.Nat.{ℕ, _+_, _≤_, _<_, min}
 use native.Mathlib.Omega.{arith}
-use lib.ListN.{length, getD, take, length-take, List·getD-eq-default}
+use lib.ListN.{length, getD, take, length-take, length-append, List·getD-append, List·getD-eq-default}
 use lib.Dec.{ltb}
-use lib.Seq.{getD-take}
-use borrow.Author.Tests.{eq-eqb, ne-eqb, lt-ltb, le-ltb}
+use lib.Seq.{getD-at, getD-take}
+use borrow.Author.Tests.{eq-eqb, lt-ltb, le-ltb}
 use Rattle.ground.specs.Tests.{pick}
 use Rattle.ground.specs.Lists.{filter, below}
 use Rattle.ground.proofs.OutcomeLaws.{never}
-use Rattle.ground.proofs.ListLaws.{filter-length}
-use Rattle.ground.proofs.NumbersLaws.{below-length}
+use Rattle.ground.proofs.ListLaws.{getD-mem, filter-from, filter-length}
+use Rattle.ground.proofs.NumbersLaws.{below-from, below-length, filter-below}
 use Rattle.entries.specs.Places.{noPlace}
 use Rattle.entries.specs.declared.places.Place.{Place}
 use Rattle.paths.specs.Steps.{step}
@@ -79,3 +79,53 @@ module _ (p : Program) (r applied n : ℕ) where
         go : (b : Bool) → None ≡ pick b (First (getD (reducing (stepsOf p) r n) applied 0)) None → b ≡ false
         go true h = let z : _≡_ {A = ℕ} 0 1 = cc in absurd (never z)
         go false h = refl
+
+-- a step of the relation itself, with so many applied: it is the first missing one up to it where as many stand before it; an earlier
+-- one is where fewer are applied, and none where more are
+module _ (p : Program) (r n : ℕ) (inside : n < stepCount p) (own : stepOf p n .left .relation ≡ r) where
+  abbrev earlier : List ℕ
+  earlier = reducing (stepsOf p) r n
+
+  up-to : (k : ℕ) → k ≤ stepCount p → reducing (stepsOf p) r k ≡ filter (reduces (stepsOf p) r) (below k)
+  unfolding reducing
+  up-to k h =
+      let s : min k (length (stepsOf p)) ≡ k = omega arith in
+      ap (λ j. filter (reduces (stepsOf p) r) (below j)) s
+
+  behind : reducing (stepsOf p) r (n + 1) ≡ earlier ++ (n ∷ [])
+  unfolding reduces stepOf
+  behind =
+      let one : filter (reduces (stepsOf p) r) (n ∷ []) ≡ n ∷ [] = rw (eq-eqb (stepOf p n .left .relation) r own) in
+      up-to (n + 1) (omega arith) ∙ filter-below (reduces (stepsOf p) r) n ∙ rw (one, up-to n (omega arith))
+
+  longer : length (earlier ++ (n ∷ [])) ≡ length earlier + 1
+  longer = length-append earlier (n ∷ [])
+
+  lower : {k : ℕ} → List·Memᴰ k earlier → k < n
+  lower m = below-from n (filter-from (reduces (stepsOf p) r) (below n) (rw (up-to n (omega arith)) at m) .0)
+
+  module _ (applied : ℕ) where
+    pub next-itself : applied ≡ placeOf p r n → missingOf p r applied (n + 1) ≡ First n
+    unfolding missingIn placeOf
+    next-itself e =
+        rw (
+          behind,
+          lt-ltb applied (length (earlier ++ (n ∷ []))) (omega (arith, e, longer)),
+          getD-at earlier n [] 0 applied (sym e),
+        )
+
+    pub next-earlier : applied < placeOf p r n → (k : ℕ) × (k < n) × (missingOf p r applied (n + 1) ≡ First k)
+    unfolding missingIn placeOf
+    next-earlier h = (
+      getD earlier applied 0,
+      lower (getD-mem earlier applied 0 h),
+      rw (
+        behind,
+        lt-ltb applied (length (earlier ++ (n ∷ []))) (omega (arith, h, longer)),
+        List·getD-append earlier (n ∷ []) 0 applied h,
+      ),
+    )
+
+    pub next-none : placeOf p r n < applied → missingOf p r applied (n + 1) ≡ None
+    unfolding missingIn placeOf
+    next-none h = rw (behind, le-ltb applied (length (earlier ++ (n ∷ []))) (omega (arith, h, longer)))

@@ -4,6 +4,7 @@
 pub mod CallLaws
 pub mod OpeningCodeLaws
 pub mod MakingCodeLaws
+pub mod NextCodeLaws
 pub mod TakingCodeLaws
 pub mod ReceivingCodeLaws
 pub mod RowCodeLaws

@@ -4,14 +4,14 @@ use mathlib.Core.Bool.{Bool, true, false, not}
 use mathlib.Core.List.{List}
 use Prim.Native.Nat.{ℕ, _+_, _≤_, _<_, _-_}
 use native.Mathlib.Omega.{arith}
-use lib.ListN.{length, getD, set, take, drop, length-drop}
-use lib.Seq.{sets, take-length, take-all}
+use lib.ListN.{length, getD, set, drop}
+use lib.Seq.{sets, take-length}
 use lib.Dec.{ltb, eqb}
 use borrow.Author.Tests.{lt-ltb, le-ltb, eq-eqb, ne-eqb, not-true, not-false}
 use Rattle.ground.specs.Tests.{pick}
 use Rattle.ground.specs.Outcome.{Outcome, verdictOf}
 use Rattle.ground.specs.Outcome.Outcome.{good, bad}
-use Rattle.ground.specs.declared.Verdict.the-variants.{Taken, Refused}
+use Rattle.ground.specs.declared.Verdict.the-variants.{Taken}
 use Rattle.ground.proofs.CountLaws.{split}
 use Rattle.ground.proofs.OutcomeLaws.{never}
 use Rattle.ground.proofs.PuttingLaws.{Copying, copying-length, copying-done}
@@ -32,15 +32,17 @@ use Rattle.semijoin.specs.Marks.{reducedBy, reduceOutcome, reducedOf, marksAfte
 use Rattle.semijoin.specs.declared.marks.Reduced.{Reduced}
 use Rattle.semijoin.specs.declared.marks.Reduced.the-variants as r
 use Rattle.semijoin.proofs.CallLaws.{call-promise}
-use Rattle.ends.specs.Reducing.{stepCount, stepOf, placeOf}
+use Rattle.ends.specs.Reducing.{stepCount, stepOf, placeOf, missingOf}
+use Rattle.ends.specs.declared.reducing.Missing.{Missing}
 use Rattle.station.specs.Calls.{leaves}
 use Rattle.ends.specs.Ends.{Marked, Usable}
 use Rattle.ends.specs.Messages.{counted, soundValues}
-use Rattle.station.specs.Receiving.{Stored, appliedTo, withApplied, withArrived, valuesTaken, rowsTaken, refusedBy, shownReceived}
+use Rattle.station.specs.Receiving.{Stored, appliedTo, withApplied, withArrived, isNext, notNext, valuesTaken, rowsTaken, refusedBy, shownReceived}
 use Rattle.ends.specs.declared.ends.End.{End}
 use Rattle.station.specs.declared.receiving.Received.{Received}
 use Rattle.ends.proofs.ReducingLaws.{place-most}
 use Rattle.ends.proofs.EndLaws.{step-legal, here-below}
+use Rattle.station.proofs.NextCodeLaws.{next-same, next-other, not-next-by}
 
 -- ---- an outcome as the answer
 
@@ -107,25 +109,6 @@ module _ (m before : List ℕ) (used i p : ℕ) (out : List ℕ) (c : Copying m 
   pub append-done : length m ≤ i → out ≡ sets before used m
   append-done h = copying-done m before used (length m) i p out c h ∙ ap (sets before used) (take-length m)
 
--- ---- a step that is not the next
-
--- the words behind the three in front, as they are lent
-pub body-part : (m : List ℕ) → take (length m - 3) (drop 3 m) ≡ drop 3 m
-body-part m = take-all (length m - 3) (drop 3 m) (omega (arith, length-drop 3 m))
-
-module _ (m by : List ℕ) (p : by ≡ drop 3 m) (place done : ℕ) (b : Bool) (g : b ≡ isRising by) where
-  f : b ≡ isRising (drop 3 m)
-  f = g ∙ ap isRising p
-
-  pub next-falls : not b ≡ true → _≡_ {A = ℕ} 15 (pick (not (isRising (drop 3 m))) 15 (pick (ltb place done) 16 17))
-  next-falls t = rw (← f, t)
-
-  pub next-late : not b ≡ false → place < done → _≡_ {A = ℕ} 16 (pick (not (isRising (drop 3 m))) 15 (pick (ltb place done) 16 17))
-  next-late t h = rw (← f, t, lt-ltb place done h)
-
-  pub next-early : not b ≡ false → done ≤ place → _≡_ {A = ℕ} 17 (pick (not (isRising (drop 3 m))) 15 (pick (ltb place done) 16 17))
-  next-early t h = rw (← f, t, le-ltb place done h)
-
 -- ---- what reducing by values leaves where tables, marks and column are good: 15, or the marks of fewer rows
 
 module _ (e : Envelope) (words : List ℕ) (shape : shaped e words ≡ true) (marks : List ℕ) (room : rowCount e words ≤ length marks) (a : Place)
@@ -166,11 +149,20 @@ module _ (e : Envelope) (words : List ℕ) (shape : shaped e words ≡ true) (ma
 
 -- ---- values
 
--- no count of applied steps wraps, and the relation has its place among eight
-pub values-more : (q : Papers) → GoodPapers q → (n r : ℕ) → n < stepCount (q .program) → (place done : ℕ) → place ≡ placeOf (q .program) r n
-    → place ≡ done → done + 1 ≤ 157
-values-more q g n r l place done i same =
-    omega (arith, place-most (q .program) n r, g .acceptable .whole, g .acceptable .count)
+-- neither the number behind a step nor a count of applied steps wraps, and the relation has its place among eight
+module _ (q : Papers) (g : GoodPapers q) (n : ℕ) (l : n < stepCount (q .program)) where
+  pub values-behind : n + 1 ≤ 156
+  values-behind = omega (arith, g .acceptable .whole, g .acceptable .count)
+
+  pub values-more : (s : Step) → s ≡ stepOf (q .program) n → (done : ℕ) (missing : Missing)
+      → missing ≡ missingOf (q .program) (s .left .relation) done (n + 1) → (b : Bool) → b ≡ isNext missing n → not b ≡ false → done + 1 ≤ 157
+  values-more s e done missing i b f t =
+      omega (
+        arith,
+        next-same (q .program) n l s e done missing i b f t,
+        place-most (q .program) n (s .left .relation),
+        values-behind,
+      )
 
 pub values-eight : (e : Envelope) (site r : ℕ) (b : Bool) → b ≡ isAt e site r → not b ≡ false → r < 8
 values-eight e site r b f t = omega (arith, here-below e site r (sym f ∙ not-false b t))
@@ -196,30 +188,36 @@ module _ (q : Papers) (x : End) (words marks m : List ℕ) (n : ℕ) (u : Usable
     unfolding valuesTaken soundValues
     values-uncounted h z k = rw k (takes-bad notSound 0 (rw (← e, ← f, t, ← c, not-true d h)))
 
-    module _ (h : not d ≡ false) (place done : ℕ) (i : place ≡ placeOf (q .program) (s .left .relation) n)
-        (j : done ≡ getD (x .applied) (s .left .relation) 0) where
+    module _ (h : not d ≡ false) (done : ℕ) (j : done ≡ getD (x .applied) (s .left .relation) 0) (missing : Missing)
+        (i : missing ≡ missingOf (q .program) (s .left .relation) done (n + 1)) (is : Bool) (known : is ≡ isNext missing n) where
+      abbrev its-place : ℕ
+      its-place = placeOf (q .program) (s .left .relation) n
+
       -- what comes before 16 and 17
       sound-by : soundValues m ≡ isRising (drop 3 m)
       unfolding soundValues
       sound-by = rw (← c, not-false d h)
 
-      pub values-other : (place ≡ done → ⊥) → (k : ℕ) → k ≡ pick (not (isRising (drop 3 m))) 15 (pick (ltb place done) 16 17) → (z : Received)
+      pub values-other : not is ≡ true → (k : ℕ) → k ≡ pick (not (isRising (drop 3 m))) notSound (notNext missing) → (z : Received)
           → z ≡ refusedBy x k 0 → Takes z marks
       unfolding valuesTaken
-      values-other ne k g z y = rw (y, g) (go (isRising (drop 3 m)) refl)
+      values-other v k g z y = rw (y, g, not-next-by (q .program) n l s e done missing i ne) (go (isRising (drop 3 m)) refl)
         where
+          ne : its-place ≡ done → ⊥
+          ne = next-other (q .program) n l s e done missing i is known v
+
           go : (rising : Bool) → isRising (drop 3 m) ≡ rising
-              → Takes (refusedBy x (pick (not rising) 15 (pick (ltb place done) 16 17)) 0) marks
+              → Takes (refusedBy x (pick (not rising) notSound (pick (ltb its-place done) alreadyTaken stepMissing)) 0) marks
           go false a = takes-bad notSound 0 (rw (← e, ← f, t, sound-by, a))
           go true a =
-              split done place
+              split done its-place
               (λ o.
-              let p : done < place = omega (arith, ne) in
-              rw (le-ltb place done o)
-              (takes-bad stepMissing 0 (rw (← e, ← f, t, sound-by, a, ← i, ← j, le-ltb place done o, lt-ltb done place p))))
-              (λ o. rw (lt-ltb place done o) (takes-bad alreadyTaken 0 (rw (← e, ← f, t, sound-by, a, ← i, ← j, lt-ltb place done o))))
+              let p : done < its-place = omega (arith, ne) in
+              rw (le-ltb its-place done o)
+              (takes-bad stepMissing 0 (rw (← e, ← f, t, sound-by, a, ← j, le-ltb its-place done o, lt-ltb done its-place p))))
+              (λ o. rw (lt-ltb its-place done o) (takes-bad alreadyTaken 0 (rw (← e, ← f, t, sound-by, a, ← j, lt-ltb its-place done o))))
 
-      module _ (same : place ≡ done) (by : List ℕ) (body : by ≡ drop 3 m) (removed : ℕ) (y : Reduced) (after : List ℕ)
+      module _ (v : not is ≡ false) (by : List ℕ) (body : by ≡ drop 3 m) (removed : ℕ) (y : Reduced) (after : List ℕ)
           (g : y ≡ reducedOf removed (reduceOutcome (q .envelope) words by (s .left) marks))
           (k : after ≡ marksAfter marks (reduceOutcome (q .envelope) words by (s .left) marks)) where
         here : isPlace (q .envelope) (s .left) ≡ true
@@ -232,18 +230,19 @@ module _ (q : Papers) (x : End) (words marks m : List ℕ) (n : ℕ) (u : Usable
             reduce-falls (q .envelope) words (u .shape) marks (u .room) (s .left) here by removed y after g k i p o in
             rw (w, a, v, stays) (takes-bad notSound 0 (rw (← e, ← f, t, sound-by, ← body, falls)))
 
-        pub values-applied : (v : ℕ) → y ≡ r.Removed v → (a : End) → a ≡ appliedTo x (s .left .relation) (done + 1)
+        pub values-applied : (gone : ℕ) → y ≡ r.Removed gone → (a : End) → a ≡ appliedTo x (s .left .relation) (done + 1)
             → Takes (record { verdict = Taken; end = a }) after
         unfolding valuesTaken withApplied
-        values-applied v o a w =
+        values-applied gone y-is a w =
             let (rises, marked) =
-            reduce-rises (q .envelope) words (u .shape) marks (u .room) (s .left) here by removed y after g k v o in
+            reduce-rises (q .envelope) words (u .shape) marks (u .room) (s .left) here by removed y after g k gone y-is in
+            let same : its-place ≡ done = next-same (q .program) n l s e done missing i is known v in
             let found
             : outcome
             ≡ good
             (record { end = withApplied x (s .left .relation); marks = reducedBy (q .envelope) words (drop 3 m) (s .left) marks })
             0 =
-            rw (← e, ← f, t, sound-by, ← body, rises, ← i, ← j, le-ltb place done (omega arith), le-ltb done place (omega arith)) in (
+            rw (← e, ← f, t, sound-by, ← body, rises, ← j, le-ltb its-place done (omega (arith, same)), le-ltb done its-place (omega (arith, same))) in (
               shown-good (λ (s : Marked). s .end) x outcome _ 0 found a (w ∙ rw j),
               left-good (λ (s : Marked). s .end) x outcome (λ (s : Marked). s .marks) marks _ 0 found after
                   (marked ∙ ap (λ (l : List ℕ). reducedBy (q .envelope) words l (s .left) marks) body),

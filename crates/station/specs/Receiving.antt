@@ -2,7 +2,7 @@
 -- first row message of each relation, whole, to a lent store, also for its own relations." "Receiving: 10, 11 (marks), 1, 13, 14,
 -- 15, 16 or 17, 11 (store, exactly when the message doesn't fit behind those held)."
 use Prim.Native.Nat.{ℕ, _+_}
-use mathlib.Core.Bool.{true, not}
+use mathlib.Core.Bool.{Bool, true, false, not}
 use mathlib.Core.List.{List, [], _∷_}
 use lib.ListN.{length, set}
 use lib.Seq.{sets}
@@ -22,6 +22,8 @@ use Rattle.ends.specs.Reducing.{stepCount, stepOf, placeOf}
 use Rattle.station.specs.Calls.{leaves}
 use Rattle.ends.specs.Ends.{Marked, appliedOf, hasArrived, usable}
 use Rattle.ends.specs.Messages.{frontLength, runOf, secondOf, bodyOf, aboutOf, counted, soundValues}
+use Rattle.ends.specs.declared.reducing.Missing.{Missing}
+use Rattle.ends.specs.declared.reducing.Missing.the-variants.{First, None}
 use Rattle.ends.specs.declared.messages.About.{About}
 use Rattle.ends.specs.declared.messages.About.the-variants as about
 use Rattle.ends.specs.declared.ends.End.{End}
@@ -64,6 +66,15 @@ withArrived x r words =
       arrived = set (x .arrived) r true;
       used = x .used + words;
     }
+
+-- by the first missing step of a relation up to step n: step n is the next one; if not, 16 where none is missing, 17 where an earlier one is
+unfoldable pub isNext : Missing → ℕ → Bool
+isNext (First first) n = eqb first n
+isNext None n = false
+
+unfoldable pub notNext : Missing → ℕ
+notNext (First first) = stepMissing
+notNext None = alreadyTaken
 
 -- the values of step n
 unfoldable pub valuesTaken : Papers → End → List ℕ → List ℕ → List ℕ → ℕ → Outcome Marked

@@ -1,17 +1,20 @@
 // Receiving messages: the values of a step reduce its left relation; the rows of a relation go to the store.
 use ends::ends::End;
+use ends::messages;
 use ends::messages::About;
+use ends::reducing::Missing;
 use fields::refusals;
 use ground::Verdict;
 use papers::checks::Papers;
+use semijoin::marks;
 use semijoin::marks::Reduced;
 ghost use mathlib.Core.Path.{_≡_};
 ghost use mathlib.Core.Bool.{not};
 ghost use Prim.Native.Nat.{_+_, _≤_, _<_};
 ghost use lib.ListN.{length};
 ghost use lib.Seq.{sets};
-ghost use lib.Dec.{ltb};
 ghost use Rattle.ground.specs.Tests.{pick};
+ghost use Rattle.fields.specs.Refusals.{notSound};
 ghost use Rattle.tables.specs.Rising.{isRising};
 ghost use Rattle.ends.specs.Reducing.{stepCount};
 ghost use Rattle.station.specs.Calls.{leaves};
@@ -22,6 +25,8 @@ ghost use Rattle.station.specs.Receiving.{
   Held,
   appliedTo,
   withArrived,
+  isNext,
+  notNext,
   valuesTaken,
   rowsTaken,
   receiveWith,
@@ -89,18 +94,27 @@ fn with_arrived(end: End, relation: u8, words: usize) -> End
     }
 }
 
-// A step that is not the next one of its relation: 15, 16 or 17.
-fn not_next(message: &[u32], place: u32, done: u32) -> u8
-    requires { ⌜ frontLength ≤ length (now message) ⌝ }
-    ensures { λ r. ⌜ r ≡ pick (not (isRising (bodyOf (now (message .entry))))) 15 (pick (ltb place done) 16 17) ⌝ }
+// Step n is the next one of its relation: of those up to n, it is the first missing.
+fn is_next(missing: Missing, n: usize) -> bool
+    ensures { λ r. ⌜ r ≡ isNext missing n ⌝ }
 {
-    if !tables::rising::is_rising(&message[ends::messages::FRONT..]) {
+    match missing {
+        Missing::First(first) => first == n,
+        Missing::None => false,
+    }
+}
+
+// A step that is not the next one: 15, then 16 where none up to it is missing, or 17 where an earlier one is.
+fn not_next(message: &[u32], missing: Missing) -> u8
+    requires { ⌜ frontLength ≤ length (now message) ⌝ }
+    ensures { λ r. ⌜ r ≡ pick (not (isRising (bodyOf (now (message .entry))))) notSound (notNext missing) ⌝ }
+{
+    if !tables::rising::is_rising(&message[messages::FRONT..]) {
         return refusals::NOT_SOUND;
     }
-    if place < done {
-        refusals::ALREADY_TAKEN
-    } else {
-        refusals::STEP_MISSING
+    match missing {
+        Missing::First(first) => refusals::STEP_MISSING,
+        Missing::None => refusals::ALREADY_TAKEN,
     }
 }
 
@@ -124,29 +138,21 @@ fn take_values(
     if !contents::sites::is_at(envelope, end.site, left.relation) {
         return refused(end, refusals::NOT_OURS, 0);
     }
-    if !ends::messages::is_counted(message, 1) {
+    if !messages::is_counted(message, 1) {
         return refused(end, refusals::NOT_SOUND, 0);
     }
-    let place = ends::reducing::place_of(program, left.relation, n);
     let done = ends::ends::applied_of(applied, left.relation);
-    if place != done {
-        let number = not_next(message, place, done);
-        return refused(end, number, 0);
+    let missing = ends::reducing::missing_of(program, left.relation, done, n + 1);
+    if !is_next(missing, n) {
+        return refused(end, not_next(message, missing), 0);
     }
-    let reduced = semijoin::marks::reduce_by(
-        envelope,
-        left,
-        tables,
-        &message[ends::messages::FRONT..],
-        marks,
-    );
+    let reduced = marks::reduce_by(envelope, left, tables, &message[messages::FRONT..], marks);
     match reduced {
         Reduced::Refused { number, position } => refused(end, number, position),
         Reduced::Removed(removed) => {
-            let after = applied_to(end, left.relation, done + 1);
             Received {
                 verdict: Verdict::Taken,
-                end: after,
+                end: applied_to(end, left.relation, done + 1),
             }
         }
     }
@@ -179,7 +185,7 @@ fn take_rows(papers: Papers, end: End, store: &mut [u32], message: &[u32], relat
         return refused(end, refusals::NOT_OURS, 0);
     }
     let columns = contents::kept::kept_columns(envelope, relation);
-    if !ends::messages::is_counted(message, columns.count) {
+    if !messages::is_counted(message, columns.count) {
         return refused(end, refusals::NOT_SOUND, 0);
     }
     if arrived[relation as usize] {
@@ -211,17 +217,17 @@ fn receive_with(
     requires { ⌜ Usable papers (now tables) (length (now marks)) ⌝ }
     ensures { λ r. ⌜ (r ≡ shownReceived (λ (h : Held). h .end) end (receiveWith papers end (now (tables .entry)) (now (marks .entry)) (now (store .entry)) (now (message .entry)))) × (now (marks .exit) ≡ receivedMarks (now (marks .entry)) (receiveWith papers end (now (tables .entry)) (now (marks .entry)) (now (store .entry)) (now (message .entry)))) × (now (store .exit) ≡ receivedStore (now (store .entry)) (receiveWith papers end (now (tables .entry)) (now (marks .entry)) (now (store .entry)) (now (message .entry)))) ⌝ }
 {
-    if message.len() < ends::messages::FRONT {
+    if message.len() < messages::FRONT {
         return refused(end, refusals::ENDS_INSIDE, 0);
     }
-    if message[ends::messages::RUN] != end.run {
+    if message[messages::RUN] != end.run {
         return refused(end, refusals::OTHER_RUN, 0);
     }
     let envelope = papers.envelope;
     let program = papers.program;
     let steps = ends::reducing::step_count(program);
     let relations = ground::used::in_use(8, envelope.relation_count);
-    let about = ends::messages::speaks_of(steps, relations as u8, message[ends::messages::SECOND]);
+    let about = messages::speaks_of(steps, relations as u8, message[messages::SECOND]);
     match about {
         About::Nothing => refused(end, refusals::NOT_OURS, 0),
         About::Step(n) => take_values(papers, end, tables, marks, message, n),
