@@ -32,7 +32,7 @@ use Rattle.demands.specs.Link.{Crew, Allowed, State, start, Event, Possi
 use Rattle.demands.specs.Orderly.{sendsStep, bringsStep, sendsRows, bringsRows, inTurn, inOrder, IsTaken, AllTaken, Happens, InOrder}
 use Rattle.demands.proofs.TakenLaws.{SoundAt, Sound, room-at, received, rows-by}
 use Rattle.demands.proofs.SoundLaws.{taken-here, taken-there}
-use Rattle.demands.proofs.StartLaws.{opened-end, no-steps, none-arrived, sound-start, sound-next}
+use Rattle.demands.proofs.StartLaws.{opened, opening-good, opened-end, no-steps, none-arrived, sound-start, sound-next}
 use Rattle.demands.proofs.SaidLaws.{steps-few}
 use Rattle.demands.proofs.GoingLaws.{rows-go, rows-come}
 use Rattle.station.proofs.CallLaws.{leaves-good}
@@ -255,6 +255,7 @@ module _ (c : Crew) (w : Allowed c) (room : ℕ) (wide : 16400 ≤ room) where
       let rows = inTurn c (sendsRows c room) (bringsRows c room) (afterAll c (start c) steps) (below (relationCount e)) in
       let (g, u, done) = all-rows (relationCount e) 0 (afterAll c (start c) steps) none-yet ready in
       record {
+        opened = λ site small. (opened c w site small, 0, opening-good c w site small);
         possible = follows-all steps rows (start c) f g;
         taken = taken-all steps rows (start c) t u;
         arrived = λ r h. ap (λ (s : State). hasArrived (s .at A .end) r) (after-append steps rows (start c)) ∙ done .here r h;

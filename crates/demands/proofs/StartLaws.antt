@@ -43,14 +43,14 @@ pub none-arrived : (r : ℕ) → getD (replicate 8 false) r false ≡ false
 none-arrived r = eight false r
 
 module _ (c : Crew) (w : Allowed c) (site : ℕ) (small : site ≤ 7) where
-  abbrev opened : Marked
+  abbrev pub opened : Marked
   opened =
       record {
         end = startOf (c .papers) site (c .run);
         marks = openedIn (c .papers .envelope) (c .tables site) (isAt (c .papers .envelope) site) (c .lent site);
       }
 
-  opening-good : openingAt c site ≡ good opened 0
+  pub opening-good : openingAt c site ≡ good opened 0
   unfolding openOf openWith
   opening-good =
       ap (λ (o : Outcome Papers). next o (λ q _. openWith q site (c .run) (c .tables site) (c .lent site))) (w .accepted .1)

@@ -1,8 +1,8 @@
--- Something happens: the run in which every message made is delivered, in program order. Each step's value message is made where
--- its right relation is and comes to where its left relation is; then each relation's row message is made where it is
--- and comes to the assembly site. So no station that refuses everything keeps demand 3.
+-- Something happens: the run in which every message made is delivered, in program order. Every site opens its end. Each step's value
+-- message is made where its right relation is and comes to where its left relation is; then each relation's row message is made
+-- where it is and comes to the assembly site. So no station that refuses everything does what this says beside demand 3.
 use Rattle.demands.specs.Words.{ℕ, _≤_, _<_, _≡_, true, List, [], _∷_, _++_, getD, replicate, below, Outcome, good, relationCount, siteOf, stepCount, stepOf, hasArrived, makeValuesOf, makeRowsOf, receiveOf}
-use Rattle.demands.specs.Link.{Crew, Allowed, State, start, Event, after, afterAll, Follows, lentStore}
+use Rattle.demands.specs.Link.{Crew, Allowed, State, openingAt, start, Event, after, afterAll, Follows, lentStore}
 use Rattle.demands.specs.Link.Event.{makesValues, makesRows, comes}
 
 -- with so much room lent each time: a step's values are sent and come, a relation's rows are sent and come; what comes is the
@@ -44,8 +44,9 @@ abbrev pub AllTaken : Crew → State → List Event → Type 0
 AllTaken c s [] = Unit {0}
 AllTaken c s (x ∷ xs) = IsTaken c s x × AllTaken c (after c s x) xs
 
--- every call of it is taken, and at its end every relation's row message has arrived
+-- every call of it is taken, the openings first, and at its end every relation's row message has arrived
 pub record Happens (c : Crew) (room : ℕ) : Type 0 where
+  pub opened : (site : ℕ) → site ≤ 7 → Goes (openingAt c site)
   pub possible : Follows c (start c) (inOrder c room)
   pub taken : AllTaken c (start c) (inOrder c room)
   pub arrived : (r : ℕ) → r < relationCount (c .papers .envelope)
