@@ -6,7 +6,8 @@
  *
  * Every call answers one number of 64 bits. legestran_number() of it is 0 where the call was taken, else the number it is refused
  * by; legestran_value() is the length written, in elements (0 for calls that write nothing to the front of a buffer), or what goes
- * with the refusal. A refused call has written nothing anywhere. Positions, steps and relations are counted from 0.
+ * with the refusal; one above 2^32 - 1 is said as that. A refused call has written nothing anywhere. Positions, steps and relations are
+ * counted from 0.
  *
  * Envelopes and programs are bytes as the rules paper lists them, "Papers on the wire" (crates/envelopes/specs/Envelope.antt and
  * crates/papers/specs/Programs.antt have every field). Tables are words: the row count of each relation, then the rows, relation
@@ -88,8 +89,8 @@ uint64_t legestran_answer(legestran_bytes envelope, legestran_words tables, lege
  * and the same tables: a table that changes during a run moves the marks. After the papers 10, 4 (site above 7), 11 (marks, then a
  * state of fewer than 19 words).
  *
- * The calls 7 to 10 begin with the end: 11 (a state of fewer than 19 words), the papers' numbers, and 4 at 0 for a state that no call
- * has written; "after the end" below. */
+ * The calls 7 to 10 begin with the end: 11 (a state of fewer than 19 words), the papers' numbers, and 4 at 0 for a state with more
+ * applied steps of a relation than the program has, or with an arrived word above 1; "after the end" below. */
 uint64_t legestran_open(legestran_bytes envelope, legestran_bytes program, uint32_t site, uint32_t run, legestran_words tables,
                         legestran_bytes_out marks, legestran_words_out state);
 
@@ -105,7 +106,8 @@ uint64_t legestran_make_rows(legestran_bytes envelope, legestran_bytes program, 
 
 /* 9. Receives a message: a step's values change marks, a relation's rows go to the store, and state remembers it. Lost, repeated and
  * reordered messages do no harm: 16 and 17 say so, and a message may be made and sent again at any time. After the end 10, 11
- * (marks), 1, 13, 14, 15, 16 or 17, 11 (store). Only the assembly site needs a store that is not empty. */
+ * (marks), 1, 13, 14, 15, 16 or 17, 11 (store). Only the assembly site needs a store that is not empty. A store of 2^32 words or more is
+ * 4 at 0, right after the end: lend less of it. */
 uint64_t legestran_receive(legestran_bytes envelope, legestran_bytes program, legestran_words_out state, legestran_words tables,
                            legestran_bytes_out marks, legestran_words_out store, legestran_words message);
 
