@@ -1,7 +1,8 @@
 -- "Every envelope, program, table and radio message, damaged or hostile, is either taken or refused with a number from our list,
 -- and every call ends. A refusal leaves the row marks, the store and every output as they were before the call." Of each public
--- call on papers, tables, marks, ends and stores that can refuse: the numbers that it can refuse by, as 01 lists them, and what a
--- refusal leaves. That every call ends is the language's own guarantee, and that a call is taken or refused is what an outcome is.
+-- call on papers, tables, marks, ends and stores that can refuse: by no other numbers than 01 lists for it, and what a refusal
+-- leaves; that each of them is met is run (crates/cases, crates/refusals, crates/answers). That every call ends is the language's own
+-- guarantee, and that a call is taken or refused is what an outcome is.
 -- docs/CONTRACTS.md has the functions that cannot refuse, and those that read one field or entry of a paper.
 use Rattle.demands.specs.Words.{ℕ, _≡_, Bool, List, [], _∷_, List·Memᴰ, _⊎_, length, Outcome, bad, judgement, Refused, Unwritten, Unjudged, Place, Envelope, Fits}
 use Rattle.demands.specs.Words.{Step, Program, ProgramFits, Papers, readEnvelope, checkEnvelope, envelopeWritten, envelopeWrittenIn, legalityOf, selectionsRead, equalitiesRead}
