@@ -1,14 +1,15 @@
 -- What the returns of the functions on messages' words cite.
 use mathlib.Core.Path.{_≡_, refl, sym}
 use mathlib.Core.Bool.{Bool, true, false, _&&_}
-use mathlib.Core.List.{List}
+use mathlib.Core.List.{List, []}
 use Prim.Native.Nat.{ℕ, _+_, _*_, _-_, _≤_, _<_}
 use native.Mathlib.Nat.{mul-le-mul}
 use native.Mathlib.Omega.{arith}
-use lib.ListN.{length, getD}
+use lib.ListN.{length, getD, set}
+use lib.Seq.{sets}
 use lib.Dec.{eqb, leb}
 use borrow.Author.Tests.{lt-ltb, le-ltb, le-leb, lt-leb, ne-eqb}
-use Rattle.ends.specs.Messages.{aboutOf, counted}
+use Rattle.ends.specs.Messages.{messageOf, aboutOf, counted}
 use Rattle.ends.specs.declared.messages.About.the-variants.{Step, Rows, Nothing}
 use Rattle.ends.proofs.MessageLaws.{about-step, about-between, about-past}
 
@@ -50,3 +51,8 @@ module _ (k : ℕ) (m : List ℕ) where
   pub counted-whole : getD m 2 0 ≤ 4096 → eqb (length m) (3 + getD m 2 0 * k) ≡ counted k m
   unfolding counted
   counted-whole h = sym (rw (le-leb (getD m 2 0) 4096 h))
+
+-- word after word
+pub front-put : (run second count : ℕ) (before one two three : List ℕ) → one ≡ set before 0 run → two ≡ set one 1 second → three ≡ set two 2 count
+    → three ≡ sets before 0 (messageOf run second count [])
+front-put run second count before one two three a b c = rw (c, b, a)

@@ -2,10 +2,9 @@
 // says, and the three words in front. The places of a message's words are named here alone.
 ghost use mathlib.Core.Path.{_≡_};
 ghost use mathlib.Core.List.{[]};
-ghost use Prim.Native.Nat.{_≤_, _<_};
-ghost use lib.ListN.{length};
+ghost use lib.ListN.{set};
 ghost use lib.Seq.{sets};
-ghost use Rattle.ends.specs.Messages.{frontLength, messageOf, aboutOf, counted};
+ghost use Rattle.ends.specs.Messages.{messageOf, aboutOf, counted};
 
 // The run, the word that says what a message speaks of, the count; behind them the body.
 pub const RUN: usize = 0;
@@ -57,12 +56,20 @@ pub fn is_counted(message: &[u32], each: u8) -> bool
     message.len() == FRONT + count * each as usize
 }
 
-// The three words in front.
+// One word, where the message goes that far.
+fn put_word(message: &mut [u32], at: usize, value: u32)
+    ensures { λ r. ⌜ now (message .exit) ≡ set (now (message .entry)) at value ⌝ }
+{
+    if at < message.len() {
+        message[at] = value;
+    }
+}
+
+// The three words in front, as far as the message goes.
 pub fn put_front(message: &mut [u32], run: u32, second: u32, count: u32)
-    requires { ⌜ frontLength ≤ length (now message) ⌝ }
     ensures { λ r. ⌜ now (message .exit) ≡ sets (now (message .entry)) 0 (messageOf run second count []) ⌝ }
 {
-    message[RUN] = run;
-    message[SECOND] = second;
-    message[COUNT] = count;
+    put_word(message, RUN, run);
+    put_word(message, SECOND, second);
+    put_word(message, COUNT, count);
 }

@@ -6,7 +6,7 @@ use mathlib.Core.List.{List, [], _∷_}
 use Prim.Native.Nat.{ℕ, suc, _+_, _≤_, _<_}
 use native.Mathlib.Omega.{arith}
 use lib.ListN.{length, getD, set}
-use lib.Seq.{sets, length-sets, set-comm}
+use lib.Seq.{sets, set-comm}
 use lib.Dec.{ltb}
 use borrow.Author.Tests.{ltb-true, lt-ltb, le-ltb}
 use Rattle.ground.specs.Outcome.{Outcome}
@@ -215,9 +215,6 @@ module _ (q : Papers) (x : End) (words marks : List ℕ) (n : ℕ) (out : List �
               no-more-values (q .envelope) words marks (s .right),
               shaped-shape (q .envelope) words (u .shape) .few (s .right .relation),
             )
-
-        pub values-room : 3 ≤ length after
-        values-room = omega (arith, fit .0, ap (λ (l : List ℕ). length l) (fit .2) ∙ length-sets out 3 values)
 
         pub values-made : (last : List ℕ) → last ≡ sets after 0 (x .run ∷ n ∷ i ∷ []) → Makes out outcome (Length (3 + i)) last
         unfolding valueMessage

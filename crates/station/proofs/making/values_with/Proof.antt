@@ -1,4 +1,4 @@
-use Rattle.station.proofs.MakingCodeLaws.{values-waits, values-none, values-made, values-few, values-room}
+use Rattle.station.proofs.MakingCodeLaws.{values-waits, values-none, values-made, values-few}
 use native.Mathlib.Omega.{arith}
 use borrow.Author.Needs.{needs}
 use Rattle.station.proofs.making.values_with.Statement.{statement}
@@ -49,7 +49,7 @@ cast-put-front c = omega (arith, values-few _ (c .before .before .before .before
 
 -- src/making.rt:90:21
 put-front-requires : tie.Need-put-front-requires
-put-front-requires c κs = values-room _ (c .before .before .before .before .before .before .before .before .before .before .before .before .before .before .before .before .before .before .before .before .args .end) _ _ _ _ (c .before .before .before .before .before .before .before .before .before .before .before .before .before .before .before .before .before .before .before .before .pre) _ (c .before .before .before .before .before .before .before .before .before .before .before .before .before .step-of .ensures) _ (c .before .before .before .before .before .before .before .before .before .before .before .sends-step .ensures) _ (c .before .before .before .before .before .before .before .before .before .before .judge-sending .ensures) (c .before .before .before .before .before .before .before .before .enum-told .given .1) _ _ (c .before .before .before .before .before .before .values-into .ensures .0) (c .before .before .before .before .before .before .values-into .ensures .1) _ (c .before .before .gathered2 .given .1)
+put-front-requires c κs = search needs
 
 -- src/making.rt:91:34
 add-t29 : tie.Need-add-t29

@@ -32,7 +32,7 @@ cast-put-front : tie.Need-cast-put-front
 cast-put-front c = omega (arith, message-few _ _ (c .before .before .before .before .before .before .before .before .before .before .args .marks .now) _ (c .before .before .before .before .before .before .before .before .before .before .pre .0) (c .before .before .before .before .before .before .before .before .before .before .pre .1) (c .before .before .before .before .before .before .before .before .before .before .pre .2) (c .before .before .before .before .before .before .before .before .before .before .args .run) (c .before .before .before .before .before .before .before .before .before .before .args .message .now) _ (c .before .before .before .before .before .before .extent-of .ensures) _ (c .before .before .before .before .before .kept-columns .ensures) _ (c .before .before .before .count-kept .ensures))
 
 put-front-requires : tie.Need-put-front-requires
-put-front-requires c κs = omega (arith, c .before .if1 .left)
+put-front-requires c κs = search needs
 
 put-rows-requires : tie.Need-put-rows-requires
 put-rows-requires c κs = message-room _ _ (c .before .before .before .before .before .before .before .before .before .before .before .before .before .before .args .marks .now) _ (c .before .before .before .before .before .before .before .before .before .before .before .before .before .before .pre .0) (c .before .before .before .before .before .before .before .before .before .before .before .before .before .before .pre .1) (c .before .before .before .before .before .before .before .before .before .before .before .before .before .before .pre .2) (c .before .before .before .before .before .before .before .before .before .before .before .before .before .before .args .run) (c .before .before .before .before .before .before .before .before .before .before .before .before .before .before .args .message .now) _ (c .before .before .before .before .before .before .before .before .before .before .extent-of .ensures) _ (c .before .before .before .before .before .before .before .before .before .kept-columns .ensures) _ (c .before .before .before .before .before .before .before .count-kept .ensures) _ (c .before .before .before .before .before .before .in-use .ensures) (c .before .before .before .before .before .if1 .left) _ (c .before .before .before .put-front .ensures)
