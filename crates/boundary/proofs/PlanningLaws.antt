@@ -123,9 +123,6 @@ pub line-puts : (before : List ℕ) (lines : List Line) (at n i p : ℕ) (out : 
 unfolding lineWords
 line-puts before lines at n i p out w d q after h e = writing-more lineWords 4 lines before at n i p out w d q after h (e .0) (e .1) (e .2)
 
-pub line-near : (before : List ℕ) (lines : List Line) (at n i p : ℕ) (out : List ℕ) → Writing lineWords 4 lines before at n i p out → p ≤ at + 4 * i
-line-near before lines at n i p out w = w .near
-
 -- ---- the estimate
 
 lines-long : (l : List Line) → length (each lineWords l) ≡ 4 * length l

@@ -5,14 +5,13 @@ use mathlib.Core.List.{List, [], _∷_, _++_, map}
 use lib.ListN.{take}
 use Rattle.ground.specs.Lists.{each}
 use Rattle.ground.specs.Outcome.{Outcome, next}
-use Rattle.ground.specs.Outcome.Outcome.{good, bad}
+use Rattle.ground.specs.Outcome.Outcome.{bad}
 use Rattle.ground.specs.declared.Verdict.{Verdict}
 use Rattle.ground.specs.declared.Verdict.the-variants as verdict
 use Rattle.envelopes.specs.Envelope.{readEnvelope}
 use Rattle.papers.specs.Programs.{checkProgram}
 use Rattle.papers.specs.Checks.{papersOf}
 use Rattle.papers.specs.declared.programs.Program.{Program}
-use Rattle.papers.specs.declared.checks.Papers.{Papers}
 use Rattle.estimates.specs.Estimate.{estimateOf}
 use Rattle.planner.specs.Plan.{planOf}
 use Rattle.estimates.specs.declared.lines.Line.{Line}

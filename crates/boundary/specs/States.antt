@@ -1,9 +1,9 @@
 -- What an end remembers between calls, as 19 words: site, run, used, applied 0 to 7, arrived 0 to 7. An arrived word is 0 or 1.
 -- Applied words behind the envelope's last relation play no part and stay, and so do words behind the nineteenth.
 use Prim.Native.Nat.{ℕ, _+_}
-use mathlib.Core.Bool.{Bool, true, false}
+use mathlib.Core.Bool.{Bool, false}
 use mathlib.Core.List.{List, [], _∷_, _++_, map}
-use lib.ListN.{length, getD}
+use lib.ListN.{getD}
 use lib.Seq.{sets}
 use lib.Dec.{eqb, ltb}
 use Rattle.ground.specs.Tests.{pick}

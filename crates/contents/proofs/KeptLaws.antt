@@ -2,11 +2,10 @@
 use mathlib.Core.Path.{_≡_, refl, ap, sym, _∙_}
 use mathlib.Core.Bool.{Bool, true, false}
 use mathlib.Core.List.{List, [], _∷_}
-use Prim.Native.Nat.{ℕ, _+_, _≤_, _<_, min}
+use Prim.Native.Nat.{ℕ, _+_, _≤_, _<_}
 use native.Mathlib.Omega.{arith}
 use borrow.Author.Tests.{lt-ltb, le-ltb}
-use lib.ListN.{length, getD, take, set, replicate, length-take, List·getD-eq-default}
-use lib.Seq.{getD-take, take-all}
+use lib.ListN.{length, take, set, replicate}
 use Rattle.ground.specs.Lists.{any, empty, filter, below}
 use Rattle.ground.specs.Searching.{firstFrom}
 use Rattle.ground.proofs.SearchingLaws.{Looking, first-more, first-found, first-none}

@@ -6,7 +6,6 @@ use lib.ListN.{getD}
 use Rattle.ground.proofs.UsedLaws.{used-inside, used-outside}
 use Rattle.entries.specs.Relations.{pastRelation, columnCount}
 use Rattle.contents.specs.Parts.{relationsOf, columnsIn}
-use Rattle.entries.specs.declared.relations.Relation.{Relation}
 use Rattle.contents.specs.declared.envelope.Envelope.{Envelope}
 
 module _ (e : Envelope) (r : ℕ) where

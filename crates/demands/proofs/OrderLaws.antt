@@ -16,7 +16,6 @@ use Rattle.contents.specs.Parts.{relationCount}
 use Rattle.contents.specs.Sites.{siteOf, isAt}
 use Rattle.contents.specs.declared.envelope.Envelope.{Envelope}
 use Rattle.papers.specs.declared.programs.Program.{Program}
-use Rattle.tables.specs.Offsets.{rowCount}
 use Rattle.tables.specs.Shape.{shaped}
 use Rattle.tables.proofs.ShapeLaws.{shaped-shape, words-fit}
 use Rattle.ends.specs.Reducing.{stepCount, placeOf}
@@ -30,7 +29,7 @@ use Rattle.station.proofs.MadeLaws.{rows-counted}
 use Rattle.station.proofs.RoomLaws.{message-most}
 use Rattle.demands.specs.Link.{Crew, Allowed, State, start, Event, Possible, withMade, withTaken, lentStore, after, afterAll, Follows}
 use Rattle.demands.specs.Orderly.{sendsStep, bringsStep, sendsRows, bringsRows, inTurn, inOrder, IsTaken, AllTaken, Happens, InOrder}
-use Rattle.demands.proofs.TakenLaws.{SoundAt, Sound, room-at, received, rows-by}
+use Rattle.demands.proofs.TakenLaws.{SoundAt, Sound, received, rows-by}
 use Rattle.demands.proofs.SoundLaws.{taken-here, taken-there}
 use Rattle.demands.proofs.StartLaws.{opened, opening-good, opened-end, no-steps, none-arrived, sound-start, sound-next}
 use Rattle.demands.proofs.SaidLaws.{steps-few}
@@ -70,9 +69,6 @@ module _ (c : Crew) (w : Allowed c) (room : ℕ) (wide : 16400 ≤ room) where
 
     shape : shaped e (c .tables sender) ≡ true
     shape = w .shapes sender (site-few c w k few)
-
-    marked : rowCount e (c .tables sender) ≤ length (from .marks)
-    marked = room-at c w (s .made) sender (site-few c w k few) from s-from
 
     abbrev rows : Table
     rows = sentRows e (c .tables sender) (from .marks) k

@@ -5,10 +5,9 @@ use native.Mathlib.Omega.{arith}
 use mathlib.Core.List.{List, [], _∷_, head-eq-of-cons-eq, tail-eq-of-cons-eq}
 use mathlib.Core.Bool.{Bool, true, false}
 use lib.Dec.{eqb, leb}
-use lib.ListN.{length, getD, take, drop, length-drop, length-take, drop-of-length-le}
+use lib.ListN.{length, getD, take, drop, length-drop, drop-of-length-le}
 use lib.Seq.{drop-cons, getD-take}
 use borrow.Author.Tests.{eq-eqb, ne-eqb, eqb-true, eqb-false, le-leb, lt-leb, leb-true, leb-false, lt-ltb, le-ltb}
-use Rattle.ground.specs.Tests.{pick}
 use Rattle.ground.specs.Lists.{filter, below}
 use Rattle.ground.proofs.OutcomeLaws.{never}
 use Rattle.ground.proofs.ListLaws.{filter-length}
@@ -18,7 +17,6 @@ use Rattle.paths.specs.declared.steps.Step.{Step}
 use Rattle.papers.specs.declared.programs.Program.{Program}
 use Rattle.ends.specs.Reducing.{reduces, reducing, placeOf, missingIn, missingOf}
 use Rattle.ends.specs.Searching.{seenOf, soughtFrom, Found}
-use Rattle.ends.specs.declared.reducing.Missing.{Missing}
 use Rattle.ends.specs.declared.reducing.Missing.the-variants.{First, None}
 use Rattle.ends.specs.declared.reducing.Search.{Search}
 use Rattle.ends.proofs.CountingLaws.{Counting, counting-start, counting-yes, counting-no, counting-done, counting-found, counting-less}

@@ -1,20 +1,20 @@
 -- A sound end: its papers are taken as they stand, so that with tables of the shape and marks enough a call works on them; the
 -- relations of its program's steps have their places.
 use mathlib.Core.Path.{_≡_, refl, ap, sym, _∙_}
-use mathlib.Core.Bool.{true, false, false≢true}
+use mathlib.Core.Bool.{true, false}
 use mathlib.Core.List.{List, [], _∷_, List·Memᴰ, List·Memᴰ·tail, Memᴰ·append-left}
 use mathlib.Core.Logic.{_⊎_, inl, inr}
 use Prim.Native.Nat.{ℕ, _≤_, _<_, min}
 use native.Mathlib.Omega.{arith}
 use lib.ListN.{length, getD}
-use borrow.Author.Tests.{ltb-true, ltb-false, eq-eqb}
+use borrow.Author.Tests.{ltb-true, eq-eqb}
 use Rattle.ground.specs.Lists.{filter, below}
 use Rattle.ground.specs.Outcome.{Outcome, next}
 use Rattle.ground.specs.Outcome.Outcome.{good, bad}
 use Rattle.ground.specs.Refusing.{test, judged}
 use Rattle.ground.proofs.OutcomeLaws.{next-good, next-bad}
-use Rattle.ground.proofs.ListLaws.{any-of, any-from}
-use Rattle.ground.proofs.NumbersLaws.{below-mem, below-from}
+use Rattle.ground.proofs.ListLaws.{any-from}
+use Rattle.ground.proofs.NumbersLaws.{below-from}
 use Rattle.ground.proofs.RefusingLaws.{judged-good, judged-none, refusal-listed}
 use Rattle.ground.proofs.TestLaws.{not-holds}
 use Rattle.fields.specs.Refusals.{beyondLimit, wrongShape, tooShort}
@@ -43,10 +43,6 @@ module _ (p : Program) (relations : ℕ) (applied : List ℕ) where
       let (r, m, over) = any-from (overAt p applied) (below relations) t in
       let more : placeOf p r (stepCount p) < getD applied r 0 = ltb-true _ _ over in
       absurd (omega (arith, h r (below-from relations m)))
-
-  pub over-not : overApplied p relations applied ≡ false → (r : ℕ) → r < relations → getD applied r 0 ≤ placeOf p r (stepCount p)
-  unfolding overApplied overAt
-  over-not h r k = ltb-false _ _ (not-holds _ λ t. false≢true (sym h ∙ any-of (overAt p applied) (below-mem r relations k) t))
 
 -- a step of a relation stands before the relation's last
 pub place-less : (p : Program) (n : ℕ) → n < stepCount p → placeOf p (stepOf p n .left .relation) n < placeOf p (stepOf p n .left .relation) (stepCount p)

@@ -1,12 +1,10 @@
 -- The laws of columns and relations: what a reading says of the outcome, and each return of the functions that read them.
 -- Assumes nothing.
-use mathlib.Core.Path.{_≡_, refl, ap, sym, _∙_}
-use Prim.Native.Nat.{ℕ, _+_, _-_, _≤_, _<_, min}
-use native.Mathlib.Omega.{arith}
+use mathlib.Core.Path.{_≡_, ap, sym, _∙_}
+use Prim.Native.Nat.{ℕ, _+_, _≤_, _<_, min}
 use mathlib.Core.List.{List}
-use lib.ListN.{length, getD, take, set, replicate, List·getD-eq-default}
-use Rattle.ground.specs.Lists.{padded}
-use Rattle.ground.specs.Outcome.{Outcome, next, many, verdictOf, nextOf, valueOf}
+use lib.ListN.{length, getD, set, replicate, List·getD-eq-default}
+use Rattle.ground.specs.Outcome.{Outcome, next, verdictOf, nextOf, valueOf}
 use Rattle.ground.specs.Outcome.Outcome.{good, bad}
 use Rattle.ground.specs.declared.Verdict.the-variants.{Taken, Refused}
 use Rattle.ground.proofs.OutcomeLaws.{never, taken-is, refused-is}
@@ -15,7 +13,7 @@ use Rattle.fields.specs.Numbers.{numberIn, numberBelow, shownNumber}
 use Rattle.fields.specs.declared.numbers.NumberRead.{NumberRead}
 use Rattle.fields.specs.declared.numbers.NumberRead.the-variants as n
 use Rattle.fields.proofs.NumberLaws.{number-good, number-bad}
-use Rattle.entries.specs.Relations.{noColumn, noRelation, columnAt, columnsThen, relationAt, relationWith, shownColumn, shownRelation}
+use Rattle.entries.specs.Relations.{noColumn, noRelation, columnAt, columnsThen, relationAt, shownColumn, shownRelation}
 use Rattle.entries.specs.declared.relations.Column.{Column}
 use Rattle.entries.specs.declared.relations.Relation.{Relation}
 use Rattle.entries.specs.declared.relations.ColumnRead.{ColumnRead}

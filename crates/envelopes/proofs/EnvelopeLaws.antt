@@ -1,11 +1,10 @@
 -- The laws of an envelope's parts: a list of a kind read into an array, once for all four lists, and the envelope with it.
 -- Assumes nothing.
-use mathlib.Core.Path.{_≡_, refl, ap, sym, _∙_}
-use Prim.Native.Nat.{ℕ, _+_, _-_, _≤_, _<_}
+use mathlib.Core.Path.{_≡_, ap, sym, _∙_}
+use Prim.Native.Nat.{ℕ, _≤_, _<_}
 use mathlib.Core.List.{List}
-use lib.ListN.{length, take, set, replicate}
-use Rattle.ground.specs.Lists.{padded}
-use Rattle.ground.specs.Outcome.{Outcome, next, many, verdictOf, nextOf, valueOf}
+use lib.ListN.{take, replicate}
+use Rattle.ground.specs.Outcome.{Outcome, next, verdictOf, nextOf, valueOf}
 use Rattle.ground.specs.Outcome.Outcome.{good, bad}
 use Rattle.ground.specs.declared.Verdict.the-variants.{Taken, Refused}
 use Rattle.ground.proofs.OutcomeLaws.{taken-is, refused-is}

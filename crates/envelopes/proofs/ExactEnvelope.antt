@@ -241,7 +241,3 @@ check-complete e within = envelope-complete e within
 pub check-read : (s : List ℕ) (e : Envelope) (p : ℕ) → Bytes s → readEnvelope s ≡ good e p → checkEnvelope e ≡ good e p
 unfolding checkEnvelope
 check-read s e p all h = rw (envelope-exact s e p all .0 h .1) at h
-
-pub check-again : (e f : Envelope) (p : ℕ) → checkEnvelope e ≡ good f p → checkEnvelope f ≡ good f p
-unfolding checkEnvelope
-check-again e f p h = check-read (envelopeBytes e) f p (envelope-bytes e) h

@@ -1,12 +1,12 @@
 -- The laws of writing an envelope: the bytes of its parts put one after the other are its bytes, and how many they are.
-use mathlib.Core.Path.{_≡_, refl, ap, sym, subst, _∙_}
+use mathlib.Core.Path.{_≡_, refl, ap, subst, _∙_}
 use mathlib.Core.List.{List, [], _∷_, _++_, append-assoc}
-use Prim.Native.Nat.{ℕ, zero, suc, zero-le, _+_, _*_, _≤_, _<_, min}
+use Prim.Native.Nat.{ℕ, zero, suc, zero-le, _+_, _*_, _≤_}
 use native.Mathlib.Numerals.{add-one, add-two, add-three, add-six}
 use native.Mathlib.Nat.{mul-suc}
 use native.Mathlib.Omega.{arith}
-use lib.ListN.{length, getD, take, length-append}
-use lib.Seq.{sets, length-sets, take-all}
+use lib.ListN.{length, take, length-append}
+use lib.Seq.{sets}
 use Rattle.ground.specs.Lists.{each, Every}
 use Rattle.ground.specs.Bytes.{bytesOf}
 use Rattle.fields.specs.Puts.{Puts, Fronts}
@@ -19,7 +19,6 @@ use Rattle.envelopes.specs.Envelope.{CPN, envelopeBytes}
 use Rattle.entries.specs.declared.places.Place.{Place}
 use Rattle.entries.specs.declared.relations.Column.{Column}
 use Rattle.entries.specs.declared.relations.Relation.{Relation}
-use Rattle.entries.specs.declared.clauses.Clause.{Clause}
 use Rattle.entries.specs.declared.clauses.ClauseKind.{ClauseKind}
 use Rattle.entries.specs.declared.clauses.ClauseKind.the-variants.{Selection, Join}
 use Rattle.contents.specs.declared.envelope.Envelope.{Envelope}

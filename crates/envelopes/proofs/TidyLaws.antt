@@ -141,10 +141,6 @@ tidy-site e r =
     ap (λ (l : List Relation). getD l r pastRelation .site) (tidy-relations e)
     ∙ tidy-same (λ (x : Relation). x .site) (λ x. refl) (relationsOf e) r
 
-pub tidy-kept : (e : Envelope) (x : Place) → kept (tidy e) x ≡ kept e x
-unfolding kept
-tidy-kept e x = rw (tidy-clauses e, tidy-targets e)
-
 pub tidy-kept-columns : (e : Envelope) (r : ℕ) → keptColumns (tidy e) r ≡ keptColumns e r
 unfolding keptColumns kept
 tidy-kept-columns e r = rw (tidy-columns-in e r, tidy-clauses e, tidy-targets e)

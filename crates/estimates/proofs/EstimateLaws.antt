@@ -3,9 +3,8 @@ use mathlib.Core.Path.{_≡_, refl, ap, subst}
 use mathlib.Core.Bool.{true, _&&_}
 use mathlib.Core.List.{List, [], _∷_, map}
 use mathlib.Core.Logic.{_↔_}
-use Prim.Native.Nat.{ℕ, zero, suc, _+_, _<_}
-use native.Mathlib.Nat.{le-of-suc-le-suc, not-suc-le-zero}
-use lib.ListN.{length, getD, take}
+use Prim.Native.Nat.{ℕ, suc, _+_}
+use lib.ListN.{length, take}
 use Rattle.ground.specs.Lists.{sum}
 use Rattle.ground.proofs.TestLaws.{and-left, and-right, and-both}
 use Rattle.ground.proofs.CollectingLaws.{padded-take}
@@ -14,9 +13,9 @@ use Rattle.contents.specs.declared.envelope.Envelope.{Envelope}
 use Rattle.papers.specs.Programs.{noStep}
 use Rattle.paths.specs.declared.steps.Step.{Step}
 use Rattle.paths.proofs.PathLaws.{same-place, place-same}
-use Rattle.estimates.specs.Profile.{afterStep, benefit, localProfile}
+use Rattle.estimates.specs.Profile.{afterStep, localProfile}
 use Rattle.estimates.specs.Costs.{stepCost}
-use Rattle.estimates.specs.Kind.{afterAll, costs, total}
+use Rattle.estimates.specs.Kind.{costs, total}
 use Rattle.estimates.specs.Estimate.{sameStep, kindOf, line, linesOf, costsIn, estimated}
 use Rattle.estimates.specs.declared.profiles.Profile.{Profile}
 use Rattle.estimates.specs.declared.costs.Costs.{Costs}
@@ -46,16 +45,6 @@ module _ (k : Costs) (e : Envelope) where
   unfolding linesOf
   lines-length p [] = refl
   lines-length p (s ∷ ss) = ap suc (lines-length (afterStep e p s) ss)
-
-  -- each step with its benefit and cost in the profile that the steps before it leave
-  pub lines-at : (p : Profile) (ss : List Step) (i : ℕ) (z : Line) → i < length ss
-      → getD (linesOf k e p ss) i z
-      ≡ line (getD ss i noStep) (benefit e (afterAll (kindOf k e) p (take i ss)) (getD ss i noStep))
-      (stepCost k e (afterAll (kindOf k e) p (take i ss)) (getD ss i noStep))
-  unfolding linesOf
-  lines-at p [] i z h = absurd (not-suc-le-zero h)
-  lines-at p (s ∷ ss) zero z h = refl
-  lines-at p (s ∷ ss) (suc i) z h = lines-at (afterStep e p s) ss i z (le-of-suc-le-suc h)
 
   pub lines-steps : (p : Profile) (ss : List Step) → map (λ (l : Line). l .step) (linesOf k e p ss) ≡ ss
   unfolding linesOf

@@ -31,9 +31,6 @@ stands-right u w s at h =
 pub stands-both : (u w s : List ℕ) (at : ℕ) → Stands u s at → Stands w s (at + length u) → Stands (u ++ w) s at
 stands-both u w s at hu hw = stands-parts u w s at ∙ ap₂ _++_ hu hw
 
-pub stands-none : (s : List ℕ) (at : ℕ) → Stands [] s at
-stands-none s at = refl
-
 pub stands-inside : (w s : List ℕ) (at : ℕ) → Stands w s at → 0 < length w → at + length w ≤ length s
 stands-inside w s at h some = omega (arith, simp (length-take, length-drop) at (ap length h))
 

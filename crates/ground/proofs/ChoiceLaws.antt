@@ -76,13 +76,6 @@ module _ {A : Type 0} (gain : A → ℕ) where
   pub greatest-first : (l : List A) (y : A) → firstOfGreatest gain l ≡ some y → First l y
   greatest-first l y e = rw e at (greatest-chosen l)
 
-  pub greatest-none : (l : List A) → firstOfGreatest gain l ≡ none → Every (λ (x : A). gain x ≡ 0) l
-  greatest-none l e = rw e at (greatest-chosen l)
-
-  pub none-greatest : (l : List A) → Every (λ (x : A). gain x ≡ 0) l → firstOfGreatest gain l ≡ none
-  none-greatest [] h = refl
-  none-greatest (x ∷ l) h = rw (none-greatest l (h .1), le-ltb 0 (gain x) (omega (arith, h .0)))
-
   -- what was chosen before x: it stays unless x gains more
   abbrev pub orLater : Option A → A → Option A
   orLater none x = pick (ltb 0 (gain x)) (some x) none

@@ -3,12 +3,11 @@
 use mathlib.Core.Path.{_≡_, refl, sym, ap, _∙_}
 use mathlib.Core.Bool.{Bool, true, false}
 use mathlib.Core.List.{List, [], _∷_, _++_, append-nil}
-use Prim.Native.Nat.{ℕ, suc, _+_, _-_, _≤_, _<_}
+use Prim.Native.Nat.{ℕ, _+_, _-_, _≤_, _<_}
 use native.Mathlib.Nat.{sub-zero}
-use native.Mathlib.Numerals.{add-one}
 use native.Mathlib.Omega.{arith}
-use lib.ListN.{length, getD, take, set, replicate, length-append, length-replicate, getD-replicate, List·getD-append}
-use lib.Seq.{sets, take-append-seam, set-append-seam, append-snoc, getD-append-add, length-take-le, take-all}
+use lib.ListN.{length, getD, take, set, replicate, length-append, length-replicate, List·getD-append}
+use lib.Seq.{take-append-seam, set-append-seam, append-snoc, length-take-le, take-all}
 use Rattle.ground.specs.Lists.{filter, padded, below}
 use Rattle.ground.proofs.CountLaws.{left-suc, left-none}
 use Rattle.ground.proofs.ListLaws.{filter-more, filter-length}
@@ -35,34 +34,12 @@ module _ {A : Type 0} (size : ℕ) (z : A) where
   unfolding padded
   padded-inside l i d h = List·getD-append l (replicate (size - length l) z) d i h
 
-  pub padded-outside : (l : List A) (i : ℕ) (d : A) → length l ≤ i → i < size → getD (padded size z l) i d ≡ z
-  unfolding padded
-  padded-outside l i d h k =
-      let s : length l + (i - length l) ≡ i = omega arith in
-      ap (λ (j : ℕ). getD (l ++ replicate (size - length l) z) j d) (sym s)
-      ∙ getD-append-add l (replicate (size - length l) z) (i - length l) d
-      ∙ getD-replicate (size - length l) (i - length l) z d (omega arith)
-
-  -- lists of one length that fill their arrays alike are equal
-  pub padded-same : (l k : List A) → length l ≡ length k → padded size z l ≡ padded size z k → l ≡ k
-  padded-same l k h e = sym (padded-take l) ∙ ap (take (length l)) e ∙ rw h (padded-take k)
-
   pub padded-push : (l : List A) (v : A) → length l < size → set (padded size z l) (length l) v ≡ padded size z (l ++ (v ∷ []))
   unfolding padded
   padded-push l v h =
       let n : length (l ++ (v ∷ [])) ≡ length l + 1 = length-append l (v ∷ []) in
       rw (left-suc size (length l) h, n)
       (set-append-seam l z (replicate (size - (length l + 1)) z) v ∙ sym (append-snoc l v (replicate (size - (length l + 1)) z)))
-
-  -- several at once
-  pub padded-puts : (l vs : List A) → length l + length vs ≤ size → sets (padded size z l) (length l) vs ≡ padded size z (l ++ vs)
-  padded-puts l [] h = rw (append-nil l)
-  padded-puts l (v ∷ vs) h =
-      let n : length (l ++ (v ∷ [])) ≡ suc (length l) = length-append l (v ∷ []) ∙ add-one (length l) in
-      ap (λ (r : List A). sets r (suc (length l)) vs) (padded-push l v (omega arith))
-      ∙ ap (λ (k : ℕ). sets (padded size z (l ++ (v ∷ []))) k vs) (sym n)
-      ∙ padded-puts (l ++ (v ∷ [])) vs (omega (arith, n))
-      ∙ ap (padded size z) (append-snoc l v vs)
 
 -- what is collected stands in front in the array
 pub record Collecting {A : Type 0} (size : ℕ) (z : A) (done : List A) (count : ℕ) (out : List A) : Type 0 where
@@ -75,12 +52,6 @@ module _ {A : Type 0} (size : ℕ) (z : A) where
   collecting-start = record { counted = refl; fits = omega arith; array = sym (padded-nil size z) }
 
   module _ (done : List A) (count : ℕ) (out : List A) (c : Collecting size z done count out) where
-    pub collecting-length : length out ≡ size
-    collecting-length = ap length (c .array) ∙ padded-length size z done (c .fits)
-
-    pub collecting-take : take count out ≡ done
-    collecting-take = rw (c .counted, c .array) (padded-take size z done)
-
     pub collecting-push : (v : A) → count < size → Collecting size z (done ++ (v ∷ [])) (count + 1) (set out count v)
     collecting-push v h =
         let n : length (done ++ (v ∷ [])) ≡ length done + 1 = length-append done (v ∷ []) in

@@ -2,13 +2,12 @@
 -- map the combinations.
 use mathlib.Core.Path.{_≡_, refl, sym, ap, ap₂, _∙_}
 use mathlib.Core.Bool.{Bool, true, false}
-use mathlib.Core.List.{List, [], _∷_, _++_, map, List·Memᴰ, List·Memᴰ·head, Memᴰ·cast, List·Memᴰ·eq-of-singleton, map-append}
-use Prim.Native.Nat.{ℕ, zero, suc, _<_, zero-le, suc-le-suc}
+use mathlib.Core.List.{List, [], _∷_, _++_, map, List·Memᴰ, Memᴰ·cast, List·Memᴰ·eq-of-singleton, map-append}
+use Prim.Native.Nat.{ℕ, zero, suc, _<_}
 use native.Mathlib.Nat.{le-of-suc-le-suc, not-suc-le-zero}
-use native.Mathlib.Omega.{arith}
 use lib.ListN.{length, getD}
 use Rattle.ground.specs.Lists.{consIf, filter, all, each, combinations}
-use Rattle.ground.proofs.ListLaws.{filter-append, filter-map, filter-none, each-from, each-mem, map-from, map-mem}
+use Rattle.ground.proofs.ListLaws.{filter-append, filter-map, filter-none, each-from, map-from}
 
 module _ {A : Type 0} where
   from : (t : List A) (ts : List (List A)) {c : List A} → List·Memᴰ c (combinations (t ∷ ts))
@@ -30,16 +29,6 @@ module _ {A : Type 0} where
   pub combinations-length : (ts : List (List A)) {c : List A} → List·Memᴰ c (combinations ts) → length c ≡ length ts
   combinations-length [] m = ap length (List·Memᴰ·eq-of-singleton m)
   combinations-length (t ∷ ts) m = let (x, k, mx, mk, e) = from t ts m in ap length e ∙ ap suc (combinations-length ts mk)
-
-  -- one element of each list makes a combination
-  pub combinations-mem : (d : A) (ts : List (List A)) (c : List A) → length c ≡ length ts
-      → ((i : ℕ) → i < length ts → List·Memᴰ (getD c i d) (getD ts i [])) → List·Memᴰ c (combinations ts)
-  combinations-mem d [] [] e h = List·Memᴰ·head refl
-  combinations-mem d [] (x ∷ c) e h = absurd (omega arith)
-  combinations-mem d (t ∷ ts) [] e h = absurd (omega arith)
-  combinations-mem d (t ∷ ts) (x ∷ c) e h =
-      each-mem (λ (y : A). map (λ (k : List A). y ∷ k) (combinations ts)) (h 0 (suc-le-suc zero-le))
-      (map-mem (λ (k : List A). x ∷ k) (combinations-mem d ts c (omega arith) (λ i l. h (suc i) (suc-le-suc l))))
 
   -- to filter all lists by one test is to filter the combinations by it
   pub combinations-filters : (p : A → Bool) (ts : List (List A)) → combinations (map (filter p) ts) ≡ filter (all p) (combinations ts)

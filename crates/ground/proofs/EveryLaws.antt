@@ -1,13 +1,12 @@
 -- Laws of what holds of every element.
 use mathlib.Core.Path.{_≡_, refl}
-use mathlib.Core.Bool.{Bool, true}
+use mathlib.Core.Bool.{Bool}
 use mathlib.Core.List.{List, [], _∷_, _++_, map, head-eq-of-cons-eq, tail-eq-of-cons-eq}
 use mathlib.Core.List.{List·Memᴰ, List·Memᴰ·head, List·Memᴰ·tail, List·Memᴰ·cases-cons}
 use mathlib.Core.Logic.{_⊎_, inl, inr}
 use Prim.Native.Nat.{ℕ, zero, suc, _<_, zero-le, suc-le-suc}
-use lib.ListN.{length, getD, take, drop, set, replicate}
-use Rattle.ground.specs.Lists.{filter, all, each, Every}
-use Rattle.ground.proofs.TestLaws.{and-left, and-right, and-both}
+use lib.ListN.{length, getD, take, replicate}
+use Rattle.ground.specs.Lists.{filter, each, Every}
 use Rattle.ground.proofs.ListLaws.{filter-from, getD-mem}
 
 module _ {A : Type 0} where
@@ -23,14 +22,6 @@ module _ {A : Type 0} where
     pub every-append : (a b : List A) → Every P a → Every P b → Every P (a ++ b)
     every-append [] b h k = k
     every-append (x ∷ a) b h k = (h .0, every-append a b (h .1) k)
-
-    pub every-left : (a b : List A) → Every P (a ++ b) → Every P a
-    every-left [] b h = tt
-    every-left (x ∷ a) b h = (h .0, every-left a b (h .1))
-
-    pub every-right : (a b : List A) → Every P (a ++ b) → Every P b
-    every-right [] b h = h
-    every-right (x ∷ a) b h = every-right a b (h .1)
 
     pub every-at : {x : A} (l : List A) → Every P l → List·Memᴰ x l → P x
     every-at [] h m = elim m [ ]
@@ -56,30 +47,12 @@ module _ {A : Type 0} where
     every-take (suc n) [] h = tt
     every-take (suc n) (x ∷ l) h = (h .0, every-take n l (h .1))
 
-    pub every-drop : (n : ℕ) (l : List A) → Every P l → Every P (drop n l)
-    every-drop zero l h = h
-    every-drop (suc n) [] h = tt
-    every-drop (suc n) (x ∷ l) h = every-drop n l (h .1)
-
-    pub every-set : (l : List A) (i : ℕ) (v : A) → P v → Every P l → Every P (set l i v)
-    every-set [] i v k h = tt
-    every-set (x ∷ l) zero v k h = (k, h .1)
-    every-set (x ∷ l) (suc i) v k h = (h .0, every-set l i v k (h .1))
-
     pub every-replicate : (n : ℕ) (v : A) → P v → Every P (replicate n v)
     every-replicate zero v h = tt
     every-replicate (suc n) v h = (h, every-replicate n v h)
 
     pub every-filter : (p : A → Bool) (l : List A) → Every P l → Every P (filter p l)
     every-filter p l h = every-of (filter p l) λ x m. every-at l h (filter-from p l m .0)
-
-  pub all-every : (p : A → Bool) (l : List A) → all p l ≡ true → Every (λ (x : A). p x ≡ true) l
-  all-every p [] t = tt
-  all-every p (x ∷ l) t = (and-left (p x) _ t, all-every p l (and-right (p x) _ t))
-
-  pub every-all : (p : A → Bool) (l : List A) → Every (λ (x : A). p x ≡ true) l → all p l ≡ true
-  every-all p [] h = refl
-  every-all p (x ∷ l) h = and-both (h .0) (every-all p l (h .1))
 
 pub every-mapped : {A B : Type 0} (P : B → Type 0) (f : A → B) (l : List A) → Every (λ (x : A). P (f x)) l → Every P (map f l)
 every-mapped P f [] h = tt

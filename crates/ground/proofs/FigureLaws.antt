@@ -1,6 +1,5 @@
 -- Two lists of figures that hold are one list that holds.
-use mathlib.Core.Path.{_≡_}
-use mathlib.Core.List.{List, _++_, map, map-append}
+use mathlib.Core.List.{List, _++_, map-append}
 use Rattle.ground.specs.Figures.{Figure, Hold}
 
 pub hold-both : (these those : List Figure) → Hold these → Hold those → Hold (these ++ those)

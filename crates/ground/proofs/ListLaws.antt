@@ -55,22 +55,6 @@ module _ {A : Type 0} where
       go ih (inl e) = (x, List·Memᴰ·head refl, e)
       go ih (inr e) = let (y, m, h) = ih e in (y, List·Memᴰ·tail m, h)
 
-  pub all-append : (p : A → Bool) (l k : List A) → all p (l ++ k) ≡ (all p l && all p k)
-  all-append p [] k = refl
-  all-append p (x ∷ l) k = go (p x) (all-append p l k)
-    where
-      go : (b : Bool) → all p (l ++ k) ≡ (all p l && all p k) → (b && all p (l ++ k)) ≡ ((b && all p l) && all p k)
-      go true e = e
-      go false e = refl
-
-  pub any-append : (p : A → Bool) (l k : List A) → any p (l ++ k) ≡ (any p l || any p k)
-  any-append p [] k = refl
-  any-append p (x ∷ l) k = go (p x) (any-append p l k)
-    where
-      go : (b : Bool) → any p (l ++ k) ≡ (any p l || any p k) → (b || any p (l ++ k)) ≡ ((b || any p l) || any p k)
-      go true e = refl
-      go false e = e
-
   -- some pass where not all fail
   pub any-not-all : (p : A → Bool) (l : List A) → any p l ≡ not (all (λ (x : A). not (p x)) l)
   any-not-all p [] = refl
@@ -196,14 +180,6 @@ module _ {A B : Type 0} where
   pub filter-each : (p : B → Bool) (f : A → List B) (l : List A) → filter p (each f l) ≡ each (λ (x : A). filter p (f x)) l
   filter-each p f [] = refl
   filter-each p f (x ∷ l) = rw (filter-append, filter-each p f l)
-
-  pub all-map : (p : B → Bool) (f : A → B) (l : List A) → all p (map f l) ≡ all (λ (x : A). p (f x)) l
-  all-map p f [] = refl
-  all-map p f (x ∷ l) = rw (all-map p f l)
-
-  pub any-map : (p : B → Bool) (f : A → B) (l : List A) → any p (map f l) ≡ any (λ (x : A). p (f x)) l
-  any-map p f [] = refl
-  any-map p f (x ∷ l) = rw (any-map p f l)
 
   -- ---- map and each
 

@@ -4,7 +4,7 @@ use mathlib.Core.List.{List, _∷_, _++_, map, append-nil}
 use Prim.Native.Nat.{ℕ, suc, _+_, _≤_, _<_}
 use native.Mathlib.Numerals.{add-one}
 use native.Mathlib.Omega.{arith}
-use lib.ListN.{length, getD, take, drop, set, length-map, length-append, length-drop, drop-of-length-le}
+use lib.ListN.{length, getD, take, drop, set, length-map, drop-of-length-le}
 use lib.Seq.{drop-cons, set-at, getD-at, append-snoc, length-take-le, take-all, set-getD}
 use Rattle.ground.proofs.ListLaws.{map-more}
 
@@ -21,10 +21,6 @@ module _ {A : Type 0} (f : A → A) (l : List A) (n : ℕ) where
   module _ (i : ℕ) (out : List A) (m : Mapping f l n i out) where
     front : length (map f (take i l)) ≡ i
     front = length-map (take i l) f ∙ length-take-le i l (omega (arith, m .within, m .room))
-
-    pub mapping-length : length out ≡ length l
-    mapping-length =
-        ap length (m .same) ∙ length-append (map f (take i l)) (drop i l) ∙ rw (front, length-drop i l) (omega (arith, m .within, m .room))
 
     module _ (d : A) (h : i < n) where
       whole : out ≡ map f (take i l) ++ getD l i d ∷ drop (suc i) l
@@ -48,15 +44,9 @@ module _ {A : Type 0} (f : A → A) (l : List A) (n : ℕ) where
                 (sym (append-snoc (map f (take i l)) (f (getD l i d)) (drop (suc i) l)));
           }
 
-      pub mapping-more : Mapping f l n (i + 1) (set out i (f (getD out i d)))
-      mapping-more = mapping-set (f (getD out i d)) refl
-
       -- an element that f leaves as it is need not be stored
       pub mapping-stays : getD out i d ≡ f (getD out i d) → Mapping f l n (i + 1) out
       mapping-stays e = rw (set-getD out i d) at (mapping-set (getD out i d) e)
-
-    pub mapping-done : n ≤ i → out ≡ map f (take n l) ++ drop n l
-    mapping-done h = let e : i ≡ n = omega (arith, m .within) in rw e at (m .same)
 
     pub mapping-all : length l ≤ i → out ≡ map f l
     mapping-all h = m .same ∙ rw (take-all i l h, drop-of-length-le l h, append-nil)

@@ -3,12 +3,11 @@ use mathlib.Core.Path.{_≡_, refl, sym, ap, _∙_}
 use mathlib.Core.Bool.{Bool}
 use mathlib.Core.List.{List, [], _∷_, _++_, map, append-nil, map-append, List·Memᴰ, List·Memᴰ·head, List·Memᴰ·tail, List·Memᴰ·cases-cons}
 use mathlib.Core.Logic.{_⊎_, inl, inr}
-use Prim.Native.Nat.{ℕ, zero, suc, _+_, _-_, _≤_, _<_, zero-le}
+use Prim.Native.Nat.{ℕ, zero, suc, _+_, _≤_, _<_, zero-le}
 use native.Mathlib.Nat.{le-of-suc-le-suc, not-suc-le-zero, add-zero}
 use native.Mathlib.Numerals.{add-one}
 use native.Mathlib.Omega.{arith}
-use lib.ListN.{length, getD, take}
-use lib.Seq.{take-at}
+use lib.ListN.{length, getD}
 use Rattle.ground.specs.Lists.{numbersFrom, below, each, filter}
 use Rattle.ground.proofs.CountLaws.{split}
 use Rattle.ground.proofs.ListLaws.{each-append, filter-append}
@@ -35,12 +34,6 @@ numbers-append i (suc n) m =
 pub numbers-suc : (i n : ℕ) → numbersFrom i (suc n) ≡ numbersFrom i n ++ ((i + n) ∷ [])
 unfolding numbersFrom
 numbers-suc i n = ap (numbersFrom i) (sym (add-one n)) ∙ numbers-append i n 1
-
-pub numbers-take : (i n k : ℕ) → k ≤ n → take k (numbersFrom i n) ≡ numbersFrom i k
-numbers-take i n k h = go (n - k) (omega arith)
-  where
-    go : (m : ℕ) → n ≡ k + m → take k (numbersFrom i n) ≡ numbersFrom i k
-    go m e = rw (e, numbers-append) (take-at (numbersFrom i k) (numbersFrom (i + k) m) k (numbers-length i k))
 
 pub numbers-mem : (x i n : ℕ) → i ≤ x → x < i + n → List·Memᴰ x (numbersFrom i n)
 unfolding numbersFrom

@@ -1,6 +1,6 @@
 -- Laws of outcomes: what a good or a bad outcome says of the readings it is chained of, and what an answer's verdict
 -- says of the outcome that it shows.
-use mathlib.Core.Path.{_≡_, refl, ap, sym, _∙_, fun-ext}
+use mathlib.Core.Path.{_≡_, refl, ap, sym, _∙_}
 use mathlib.Core.List.{List, [], _∷_, _++_, append-assoc}
 use mathlib.Core.Logic.{_⊎_, inl, inr}
 use mathlib.Core.Bool.{Bool, true, false}
@@ -8,7 +8,6 @@ use Prim.Native.Nat.{ℕ, zero, suc, _+_}
 use native.Mathlib.Omega.{arith}
 use lib.ListN.{length}
 use Rattle.ground.specs.Tests.{pick}
-use Rattle.ground.specs.Lists.{Every}
 use Rattle.ground.specs.Outcome.{Outcome, next, andMore, numbered, verdictOf, nextOf, valueOf}
 use Rattle.ground.specs.Outcome.Outcome.{good, bad}
 use Rattle.ground.specs.declared.Verdict.the-variants.{Taken, Refused}
@@ -72,15 +71,6 @@ module _ {A : Type 0} where
   more-good xs (good ws q) vs p e = (ws, cc, cc)
   more-good xs (bad m q) vs p e = absurd (good-bad vs p m q (sym e))
 
-  pub numbered-none : (item : ℕ → ℕ → Outcome A) (i at : ℕ) → numbered item i 0 at ≡ good [] at
-  unfolding numbered
-  numbered-none item i at = refl
-
-  pub numbered-cons : (item : ℕ → ℕ → Outcome A) (i n at : ℕ) (v : A) (q : ℕ) (vs : List A) (p : ℕ) → item i at ≡ good v q
-      → numbered item (i + 1) n q ≡ good vs p → numbered item i (suc n) at ≡ good (v ∷ vs) p
-  unfolding numbered
-  numbered-cons item i n at v q vs p e f = rw (e, f)
-
   -- as many are read as were asked for
   pub numbered-length : (item : ℕ → ℕ → Outcome A) (i n at : ℕ) (vs : List A) (p : ℕ) → numbered item i n at ≡ good vs p → length vs ≡ n
   unfolding numbered
@@ -89,17 +79,3 @@ module _ {A : Type 0} where
       let (v, q, here, after) = next-good (item i at) _ vs p e in
       let (ws, rest, whole) = more-good (v ∷ []) (numbered item (i + 1) n q) vs p after in
       ap length whole ∙ ap suc (numbered-length item (i + 1) n q ws p rest)
-
-  -- what holds of everything an item reads holds of all that are read
-  pub numbered-every : (P : A → Type 0) (item : ℕ → ℕ → Outcome A) → ((i at : ℕ) (v : A) (p : ℕ) → item i at ≡ good v p → P v)
-      → (i n at : ℕ) (vs : List A) (p : ℕ) → numbered item i n at ≡ good vs p → Every P vs
-  unfolding numbered
-  numbered-every P item h i zero at vs p e = let k : vs ≡ [] = cc in rw k tt
-  numbered-every P item h i (suc n) at vs p e =
-      let (v, q, here, after) = next-good (item i at) _ vs p e in
-      let (ws, rest, whole) = more-good (v ∷ []) (numbered item (i + 1) n q) vs p after in
-      rw whole (h i at v q here, numbered-every P item h (i + 1) n q ws p rest)
-
-  -- items that agree read alike
-  pub numbered-alike : (f g : ℕ → ℕ → Outcome A) → ((i at : ℕ) → f i at ≡ g i at) → (i n at : ℕ) → numbered f i n at ≡ numbered g i n at
-  numbered-alike f g h i n at = ap (λ (item : ℕ → ℕ → Outcome A). numbered item i n at) (fun-ext λ j. fun-ext λ p. h j p)

@@ -5,15 +5,12 @@ use Prim.Native.Nat.{ℕ, suc, _+_, _≤_, _<_}
 use native.Mathlib.Nat.{add-zero}
 use native.Mathlib.Numerals.{add-one}
 use native.Mathlib.Omega.{arith}
-use lib.ListN.{length, getD, take, drop, set, length-append, take-append-drop}
-use lib.Seq.{sets, sets-eq, length-sets, take-suc, take-take, length-take-le, take-at, drop-at, drop-drop, take-append-seam, drop-append-seam}
+use lib.ListN.{length, getD, take, drop, set, length-append}
+use lib.Seq.{sets, sets-eq, length-sets, take-suc, length-take-le, take-at, drop-at, drop-drop, take-append-seam, drop-append-seam}
 use Rattle.ground.specs.Lists.{each}
-use Rattle.ground.proofs.ListLaws.{each-append, each-more}
+use Rattle.ground.proofs.ListLaws.{each-more}
 
 module _ {A : Type 0} where
-  pub sets-nil : (l : List A) (i : ℕ) → sets l i [] ≡ l
-  sets-nil l i = refl
-
   pub sets-append : (l : List A) (i : ℕ) (a b : List A) → sets l i (a ++ b) ≡ sets (sets l i a) (i + length a) b
   sets-append l i [] b = rw (add-zero i)
   sets-append l i (x ∷ a) b =
@@ -63,9 +60,6 @@ module _ {A B : Type 0} (put : A → List B) (xs : List A) (before : List B) (at
   length-more d i h = ap length (each-more xs i d h put) ∙ length-append (each put (take i xs)) (put (getD xs i d))
 
   module _ (i p : ℕ) (out : List B) (f : Putting put xs before at n i p out) where
-    pub putting-length : length out ≡ length before
-    putting-length = ap length (f .same) ∙ length-sets before at (each put (take i xs))
-
     pub putting-more : (d : A) (q : ℕ) (after : List B) → i < n → after ≡ sets out p (put (getD xs i d))
         → q ≡ p + length (put (getD xs i d)) → Putting put xs before at n (i + 1) q after
     putting-more d q after h e g =
@@ -79,18 +73,6 @@ module _ {A B : Type 0} (put : A → List B) (xs : List A) (before : List B) (at
               ∙ ap (λ (j : ℕ). sets (sets before at (each put (take i xs))) j (put (getD xs i d))) (f .place)
               ∙ sym (ap (sets before at) (each-more xs i d l put) ∙ sets-append before at (each put (take i xs)) (put (getD xs i d)));
         }
-
-    -- where all fit, so does the next
-    pub putting-fits : (d : A) → i < n → at + length (each put (take n xs)) ≤ length before → p + length (put (getD xs i d)) ≤ length out
-    putting-fits d h r =
-        let l : i < length xs = omega (arith, f .room) in
-        let t : take (i + 1) (take n xs) ≡ take (i + 1) xs = take-take (i + 1) n xs (omega arith) in
-        let s : each put (take n xs) ≡ each put (take (i + 1) xs) ++ each put (drop (i + 1) (take n xs)) =
-        sym (ap (each put) (take-append-drop (i + 1) (take n xs)))
-        ∙ each-append put (take (i + 1) (take n xs)) (drop (i + 1) (take n xs))
-        ∙ ap (λ (l : List A). each put l ++ each put (drop (i + 1) (take n xs))) t in
-        let u = ap length s ∙ length-append (each put (take (i + 1) xs)) (each put (drop (i + 1) (take n xs))) in
-        omega (arith, length-more d i l, u, r, f .place, putting-length)
 
     pub putting-done : n ≤ i → out ≡ sets before at (each put (take n xs))
     putting-done h = let e : i ≡ n = omega (arith, f .within) in rw e at (f .same)

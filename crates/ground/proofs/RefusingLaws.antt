@@ -7,7 +7,7 @@ use mathlib.Core.Logic.{_⊎_, inl, inr, _↔_}
 use Prim.Native.Nat.{ℕ}
 use Rattle.ground.specs.Tests.{pick}
 use Rattle.ground.specs.Lists.{any, Every}
-use Rattle.ground.specs.Outcome.{Outcome, next, verdictOf}
+use Rattle.ground.specs.Outcome.{Outcome, verdictOf}
 use Rattle.ground.specs.Outcome.Outcome.{good, bad}
 use Rattle.ground.specs.Refusing.{Test, judged, judgement}
 use Rattle.ground.specs.declared.Verdict.{Verdict}
@@ -41,23 +41,9 @@ module _ {A : Type 0} where
   judged-append [] us o = refl
   judged-append (t ∷ ts) us o = rw (judged-append ts us o)
 
-  pub judged-first : (ts : List Test) (t : Test) (o : Outcome A) → First ts t → judged ts o ≡ bad (t .number) (t .position)
-  judged-first ts t o f =
-      ap (λ (l : List Test). judged l o) (f .whole)
-      ∙ judged-append (f .before) (t ∷ f .after) o
-      ∙ judged-none (f .before) (judged (t ∷ f .after) o) (f .passed)
-      ∙ rw (f .failed)
-
   -- a test that cannot fail may stand anywhere
   pub judged-insert : (ts us : List Test) (t : Test) (o : Outcome A) → t .fails ≡ false → judged (ts ++ (t ∷ us)) o ≡ judged (ts ++ us) o
   judged-insert ts us t o h = judged-append ts (t ∷ us) o ∙ rw h (sym (judged-append ts us o))
-
-  -- what comes after, as the code's tests come to it
-  pub judged-pass : (t : Test) (ts : List Test) (o : Outcome A) → t .fails ≡ false → judged (t ∷ ts) o ≡ judged ts o
-  judged-pass t ts o h = rw h
-
-  pub judged-fail : (t : Test) (ts : List Test) (o : Outcome A) → t .fails ≡ true → judged (t ∷ ts) o ≡ bad (t .number) (t .position)
-  judged-fail t ts o h = rw h
 
   -- good exactly where no test fails and what comes after is good
   pub judged-good : (ts : List Test) (o : Outcome A) (v : A) (p : ℕ)
@@ -102,15 +88,6 @@ module _ {A : Type 0} where
       go (inl (t, f, m, q)) =
           inl (rw (← m, f .whole) (map-mem (λ (u : Test). u .number) (Memᴰ·append-right (f .before) (List·Memᴰ·head refl))))
       go (inr (none, k)) = inr k
-
-  pub judged-next : {B : Type 0} (ts : List Test) (o : Outcome A) (k : A → ℕ → Outcome B) → next (judged ts o) k ≡ judged ts (next o k)
-  judged-next [] o k = refl
-  judged-next (t ∷ ts) o k = go (t .fails) (judged-next ts o k)
-    where
-      go : (b : Bool) → next (judged ts o) k ≡ judged ts (next o k)
-          → next (pick b (bad (t .number) (t .position)) (judged ts o)) k ≡ pick b (bad (t .number) (t .position)) (judged ts (next o k))
-      go true e = refl
-      go false e = e
 
 -- ---- tests judged alone
 

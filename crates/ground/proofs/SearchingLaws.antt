@@ -1,7 +1,7 @@
 -- Looking through a run of numbers: what holds at the head of a loop that looks, what is known of the place it finds,
 -- and that looking through a list by number is looking through the list.
 use mathlib.Core.Path.{_≡_, refl, ap, sym, _∙_}
-use mathlib.Core.Bool.{Bool, true, false, not, _&&_, _||_}
+use mathlib.Core.Bool.{Bool, true, false, _||_}
 use mathlib.Core.List.{List, [], _∷_}
 use Prim.Native.Nat.{ℕ, zero, suc, _+_, _-_, _≤_, _<_}
 use native.Mathlib.Nat.{add-zero, sub-zero, sub-self, le-of-suc-le-suc, not-suc-le-zero}
@@ -10,7 +10,7 @@ use borrow.Author.Tests.{lt-ltb, le-ltb, ltb-true}
 use lib.Dec.{ltb}
 use lib.ListN.{length, getD, take}
 use Rattle.ground.specs.Tests.{pick}
-use Rattle.ground.specs.Lists.{any, all, Every, numbersFrom}
+use Rattle.ground.specs.Lists.{any, Every, numbersFrom}
 use Rattle.ground.specs.Searching.{firstFrom}
 use Rattle.ground.proofs.CountLaws.{left-suc, left-none, split}
 use Rattle.ground.proofs.EveryLaws.{every-of}
@@ -60,19 +60,10 @@ pick-least : (b : Bool) (i k : ℕ) → i + 1 ≤ k → i ≤ pick b i k
 pick-least true i k h = omega arith
 pick-least false i k h = omega arith
 
-pick-most : (b : Bool) (i k n : ℕ) → k ≤ i + 1 + n → pick b i k ≤ i + suc n
-pick-most true i k n h = omega arith
-pick-most false i k n h = omega arith
-
 pub first-least : (f : ℕ → Bool) (i n : ℕ) → i ≤ firstFrom f i n
 unfolding firstFrom
 first-least f i zero = omega arith
 first-least f i (suc n) = pick-least (f i) i (firstFrom f (i + 1) n) (first-least f (i + 1) n)
-
-pub first-most : (f : ℕ → Bool) (i n : ℕ) → firstFrom f i n ≤ i + n
-unfolding firstFrom
-first-most f i zero = omega arith
-first-most f i (suc n) = pick-most (f i) i (firstFrom f (i + 1) n) n (first-most f (i + 1) n)
 
 -- ---- the test there and before
 
@@ -138,28 +129,6 @@ module _ (f : ℕ → Bool) where
       go true s = sym (some-of i n j l m s) ∙ e
       go false s = refl
 
-  pub none-of : (i n : ℕ) → ((j : ℕ) → i ≤ j → j < i + n → f j ≡ false) → someFrom f i n ≡ false
-  none-of i n h = go (someFrom f i n) refl
-    where
-      go : (b : Bool) → someFrom f i n ≡ b → b ≡ false
-      go true s = let (k, l, m, e) = some-at i n s in sym e ∙ h k l m
-      go false s = refl
-
--- ---- tests that agree on the run
-
-module _ (f g : ℕ → Bool) where
-  pub first-alike : (i n : ℕ) → ((j : ℕ) → i ≤ j → j < i + n → f j ≡ g j) → firstFrom f i n ≡ firstFrom g i n
-  unfolding firstFrom
-  first-alike i zero h = refl
-  first-alike i (suc n) h =
-      rw (h i (omega arith) (omega arith), first-alike (i + 1) n (λ j l m. h j (omega arith) (omega arith)))
-
-  pub some-alike : (i n : ℕ) → ((j : ℕ) → i ≤ j → j < i + n → f j ≡ g j) → someFrom f i n ≡ someFrom g i n
-  unfolding someFrom
-  some-alike i zero h = refl
-  some-alike i (suc n) h =
-      rw (h i (omega arith) (omega arith), some-alike (i + 1) n (λ j l m. h j (omega arith) (omega arith)))
-
 -- ---- lists
 
 pick-or : (a b : Bool) → pick a true b ≡ (a || b)
@@ -183,15 +152,6 @@ unfolding firstFrom numbersFrom
 none-past f i zero h = sym (add-zero i)
 none-past f i (suc n) h = rw (h .0) (none-past f (i + 1) n (h .1) ∙ omega arith)
 
-and-not : (a b : Bool) → (a && not b) ≡ not (pick (not a) true b)
-and-not true b = refl
-and-not false b = refl
-
-pub all-numbers : (f : ℕ → Bool) (i n : ℕ) → all f (numbersFrom i n) ≡ not (someFrom (λ (j : ℕ). not (f j)) i n)
-unfolding numbersFrom someFrom
-all-numbers f i zero = refl
-all-numbers f i (suc n) = rw (all-numbers f (i + 1) n) (and-not (f i) (someFrom (λ (j : ℕ). not (f j)) (i + 1) n))
-
 pub some-shift : (f : ℕ → Bool) (i n : ℕ) → someFrom f (suc i) n ≡ someFrom (λ j. f (suc j)) i n
 unfolding someFrom
 some-shift f i zero = refl
@@ -206,10 +166,3 @@ module _ {A : Type 0} (p : A → Bool) (d : A) where
   any-some [] (suc n) h = absurd (not-suc-le-zero h)
   any-some (x ∷ l) (suc n) h =
       rw (any-some l n (le-of-suc-le-suc h), some-shift (λ (i : ℕ). p (getD (x ∷ l) i d)) 0 n) (sym (pick-or (p x) _))
-
-  pub all-some : (l : List A) (n : ℕ) → n ≤ length l → all p (take n l) ≡ not (someFrom (λ (i : ℕ). not (p (getD l i d))) 0 n)
-  unfolding someFrom
-  all-some l zero h = refl
-  all-some [] (suc n) h = absurd (not-suc-le-zero h)
-  all-some (x ∷ l) (suc n) h =
-      rw (all-some l n (le-of-suc-le-suc h), some-shift (λ (i : ℕ). not (p (getD (x ∷ l) i d))) 0 n) (and-not (p x) _)

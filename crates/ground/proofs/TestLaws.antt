@@ -14,10 +14,6 @@ and-right false b t = absurd (false≢true t)
 pub and-both : {a b : Bool} → a ≡ true → b ≡ true → (a && b) ≡ true
 and-both s t = rw (s, t)
 
-pub and-cases : (a b : Bool) → (a && b) ≡ false → (a ≡ false) ⊎ (b ≡ false)
-and-cases true b t = inr t
-and-cases false b t = inl refl
-
 pub or-cases : (a b : Bool) → (a || b) ≡ true → (a ≡ true) ⊎ (b ≡ true)
 or-cases true b t = inl refl
 or-cases false b t = inr t

@@ -7,7 +7,7 @@ use mathlib.Core.List.{List}
 use mathlib.Core.Bool.{Bool, true, false}
 use lib.ListN.{length, getD, set, replicate}
 use borrow.Author.Tests.{lt-ltb, le-ltb}
-use Rattle.ground.specs.Outcome.{Outcome, next, numbered, verdictOf, nextOf, valueOf}
+use Rattle.ground.specs.Outcome.{Outcome, next, verdictOf, nextOf, valueOf}
 use Rattle.ground.specs.Outcome.Outcome.{good, bad}
 use Rattle.ground.specs.declared.Verdict.the-variants.{Taken, Refused}
 use Rattle.ground.proofs.OutcomeLaws.{never, taken-is, refused-is}
@@ -34,7 +34,7 @@ use Rattle.envelopes.proofs.ExactEnvelope.{check-sound}
 use Rattle.envelopes.specs.Rules.{Within}
 use Rattle.paths.specs.Labels.{labelsOf, byLabels}
 use Rattle.paths.specs.Steps.{step, legalBy}
-use Rattle.papers.specs.Programs.{noStep, noProgram, programWith, SJP, stepAt, endedProgram, stepsFrom, stepsThen, programBy, programAgainst, readProgram, programBytes, checkProgram, programWritten, programWrittenIn, shownStep, shownProgram}
+use Rattle.papers.specs.Programs.{noStep, noProgram, SJP, stepAt, endedProgram, stepsFrom, stepsThen, programBy, programAgainst, readProgram, programBytes, checkProgram, programWritten, programWrittenIn, shownStep, shownProgram}
 use Rattle.paths.specs.declared.labels.Labels.{Labels}
 use Rattle.paths.specs.declared.steps.Step.{Step}
 use Rattle.papers.specs.declared.programs.Program.{Program}

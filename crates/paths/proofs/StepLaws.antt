@@ -10,8 +10,8 @@ use borrow.Author.Tests.{eqb-false, ne-eqb, not-true}
 use Rattle.ground.specs.Lists.{filter, each, below}
 use Rattle.ground.specs.Order.{Ordered}
 use Rattle.ground.proofs.TestLaws.{and-left, and-right, same-test}
-use Rattle.ground.proofs.ListLaws.{filter-mem, filter-from, each-mem, each-from}
-use Rattle.ground.proofs.NumbersLaws.{below-mem, below-from}
+use Rattle.ground.proofs.ListLaws.{filter-mem, filter-from, each-mem}
+use Rattle.ground.proofs.NumbersLaws.{below-mem}
 use Rattle.ground.proofs.OrderLaws.{numbers-ordered, ordered-filter, ordered-map, ordered-each}
 use Rattle.entries.specs.Places.{place}
 use Rattle.contents.specs.Parts.{relationCount, columnsIn}
@@ -23,7 +23,7 @@ use Rattle.paths.specs.Labels.{labelsOf, byLabels}
 use Rattle.paths.specs.Steps.{step, places, isPlace, legalBy, legal, LegalStep, legalSteps, PlaceBefore, StepBefore}
 use Rattle.paths.specs.declared.steps.Step.{Step}
 use Rattle.paths.proofs.PathLaws.{on-path, on-path-symmetric}
-use Rattle.paths.proofs.LabelLaws.{place-in, in-place, place-node, labels-path}
+use Rattle.paths.proofs.LabelLaws.{place-in, place-node, labels-path}
 
 -- ---- what a legal step is
 
@@ -87,13 +87,6 @@ module _ (e : Envelope) where
       each-mem (columns e)
       (below-mem (a .relation) (relationCount e) h)
       (Memᴰ·map (place (a .relation)) (below-mem (a .column) (columnsIn e (a .relation)) k))
-
-  pub places-from : {a : Place} → List·Memᴰ a (places e) → isPlace e a ≡ true
-  unfolding places
-  places-from m =
-      let (r, i, j) = each-from (columns e) (below (relationCount e)) m in
-      let (c, n, p) = Memᴰ·of-map (place r) (below (columnsIn e r)) j in
-      rw (← p) (in-place e (place r c) (below-from (relationCount e) i) (below-from (columnsIn e r) n))
 
   -- a step is legal exactly where the list has it
   pub legal-member : (s : Step) → (legal e s ≡ true) ↔ List·Memᴰ s (legalSteps e)

@@ -27,7 +27,7 @@ use Rattle.paths.specs.declared.implied.Equal.{Equal}
 use Rattle.paths.specs.declared.implied.Equalities.{Equalities}
 use Rattle.paths.proofs.ImpliedLaws.{selections-by-labels, equalities-by-labels}
 use Rattle.tables.specs.Offsets.{rowsAt, extentOf, rowsOver}
-use Rattle.semijoin.specs.Local.{passesBy, passes, openedAt, opened, openedIn, openingMark}
+use Rattle.semijoin.specs.Local.{passesBy, openedAt, opened, openedIn, openingMark}
 use Rattle.tables.specs.declared.offsets.Extent.{Extent}
 use Rattle.semijoin.proofs.LocalLaws.{marksOf, opened-before}
 use Rattle.tables.proofs.RowLaws.{rows-over}

@@ -46,7 +46,7 @@ use Rattle.tables.specs.Rising.{among}
 use Rattle.tables.specs.Values.{valuesOf, valuesOver}
 use Rattle.semijoin.specs.Run.{stepped, steppedAll, runChecked, runMarks, runOutcome}
 use Rattle.tables.specs.Shape.{shaped, marksTests}
-use Rattle.semijoin.specs.Promise.{FewerRows, NeededIn, Covers}
+use Rattle.semijoin.specs.Promise.{NeededIn, Covers}
 use Rattle.tables.proofs.OffsetLaws.{count-outside}
 use Rattle.tables.proofs.JudgedLaws.{marks-pass}
 use Rattle.semijoin.proofs.PromiseLaws.{promise}
@@ -165,12 +165,6 @@ module _ (e : Envelope) (words : List ℕ) where
   steps-past (s ∷ ss) marks =
       steps-past ss (stepped e words s marks) ∙ promise e .past-stay words (valuesOf e words marks (s .right)) marks (s .left)
 
-  pub steps-add-none : (ss : List Step) (marks : List ℕ) (r : ℕ) → FewerRows e r words (steppedAll e words ss marks) words marks
-  unfolding stepped steppedAll
-  steps-add-none [] marks r i t = t
-  steps-add-none (s ∷ ss) marks r i t =
-      promise e .adds-none words (valuesOf e words marks (s .right)) marks (s .left) r i (steps-add-none ss (stepped e words s marks) r i t)
-
   -- ---- the run
 
   pub run-length : (p : Program) (marks : List ℕ) → length (runMarks e p words marks) ≡ length marks
@@ -240,10 +234,3 @@ module _ (e : Envelope) (p : Program) (words marks : List ℕ) where
       complete : Runs after q → runOutcome e p words marks ≡ good after q
       complete (within, acceptable, shape, room, is, end) =
           run-outcome within acceptable ∙ rw (shape, le-ltb (length marks) (rowCount e words) room, is, end)
-
-  -- and the answer on the rows that it keeps is the answer
-  pub taken-answer : Fits e → ProgramFits p → (after : List ℕ) (q : ℕ) → runOutcome e p words marks ≡ good after q
-      → answerOn (clausesOf e) (targetsOf e) (keptTables e words after) ≡ answerRows e words
-  taken-answer fits small after q h =
-      let (_, acceptable, _, room, is, _) = run-exact fits small after q .0 h in
-      rw is (run-answer e words p marks (acceptable .steps) room)

@@ -25,7 +25,7 @@ use Rattle.tables.specs.Shape.{shaped}
 use Rattle.tables.specs.Values.{risingValues}
 use Rattle.ends.specs.Reducing.{stepCount, stepOf, placeOf}
 use Rattle.ends.specs.Ends.{Marked, appliedOf, hasArrived}
-use Rattle.ends.specs.Messages.{frontLength, rowMessage, runOf, secondOf, aboutOf, counted, soundValues}
+use Rattle.ends.specs.Messages.{frontLength, runOf, secondOf, aboutOf, counted, soundValues}
 use Rattle.station.specs.Making.{sentRows}
 use Rattle.station.specs.Receiving.{Stored, Held, valuesTaken, rowsTaken, taken, receiveWith}
 use Rattle.ends.specs.declared.messages.About.{About}
@@ -130,9 +130,6 @@ module _ (q : Papers) (good-papers : GoodPapers q) (x : End) (words marks : List
   -- ---- a row message
 
   module _ (r : ℕ) (made : RowsMade q x words marks r m) where
-    abbrev rows : List ℕ
-    rows = rowMessage (x .run) r (sentRows (q .envelope) words marks r)
-
     below : r < relationCount (q .envelope)
     below = here-below (q .envelope) (x .site) r (made .here)
 

@@ -23,9 +23,8 @@ use Rattle.tables.specs.Values.{risingValues}
 use Rattle.ends.specs.Reducing.{stepCount, stepOf, placeOf, isMissing}
 use Rattle.ends.specs.Ends.{appliedOf, usable, Usable, papersIn, Sound}
 use Rattle.ends.specs.Messages.{valueMessage, rowMessage}
-use Rattle.station.specs.Making.{sendTests, fitted, valuesWith, makeValuesOf, sentRows, rowsWith, makeRowsOf, shownMade, madeIn}
+use Rattle.station.specs.Making.{sendTests, fitted, valuesWith, makeValuesOf, sentRows, rowsWith, makeRowsOf, madeIn}
 use Rattle.ends.specs.declared.ends.End.{End}
-use Rattle.station.specs.declared.making.Made.the-variants.{Refused}
 use Rattle.station.proofs.CallLaws.{each-passes, leaves-refused}
 use Rattle.ends.proofs.EndLaws.{usable-is}
 use Rattle.ends.proofs.SoundLaws.{ToldFirst, call-number, sound-call}
@@ -148,10 +147,6 @@ module _ (x : End) (words marks : List ℕ) (r room : ℕ) where
 module _ (out : List ℕ) (o : Outcome (List ℕ)) (n u : ℕ) (h : o ≡ bad n u) where
   pub made-untouched : madeIn out o ≡ out
   made-untouched = leaves-refused _ out o n u h
-
-  pub made-answer : shownMade o ≡ Refused n u
-  unfolding shownMade
-  made-answer = ap shownMade h
 
 -- ---- at a sound end, with tables of the shape and marks enough, it is by the papers as they stand
 

@@ -9,10 +9,8 @@ use native.Mathlib.Omega.{arith}
 use lib.ListN.{length, getD, replicate, getD-replicate, List·getD-eq-default}
 use lib.Dec.{ltb}
 use borrow.Author.Tests.{ltb-false, le-ltb, not-false}
-use Rattle.ground.specs.Outcome.{verdictOf}
 use Rattle.ground.specs.Outcome.Outcome.{good, bad}
 use Rattle.ground.specs.Refusing.{Test, test}
-use Rattle.ground.specs.declared.Verdict.the-variants.{Refused}
 use Rattle.ground.proofs.CountLaws.{split}
 use Rattle.ground.proofs.OutcomeLaws.{next-good, next-bad}
 use Rattle.ground.proofs.RefusingLaws.{judged-good, refusal-listed}
@@ -26,9 +24,8 @@ use Rattle.papers.proofs.CheckLaws.{papers-sound, papers-complete}
 use Rattle.tables.specs.Offsets.{rowCount}
 use Rattle.tables.specs.Shape.{shaped}
 use Rattle.semijoin.specs.Local.{openedIn}
-use Rattle.station.specs.Calls.{leaves}
-use Rattle.ends.specs.Ends.{Marked, startOf, noEnd, Sound}
-use Rattle.station.specs.Opening.{openWith, openOf, shownOpened, openedMarks}
+use Rattle.ends.specs.Ends.{Marked, startOf, Sound}
+use Rattle.station.specs.Opening.{openWith, openOf, openedMarks}
 use Rattle.ends.specs.declared.ends.End.{End}
 use Rattle.station.proofs.CallLaws.{each-passes, leaves-refused}
 
@@ -92,10 +89,6 @@ module _ (site run : ℕ) (words marks : List ℕ) where
     module _ (n u : ℕ) (h : openOf e p site run words marks ≡ bad n u) where
       pub open-untouched : openedMarks marks (openOf e p site run words marks) ≡ marks
       open-untouched = leaves-refused (λ (s : Marked). s .marks) marks (openOf e p site run words marks) n u h
-
-      pub open-answer : shownOpened (openOf e p site run words marks) ≡ record { verdict = Refused n u; end = noEnd }
-      unfolding shownOpened verdictOf leaves
-      open-answer = ap shownOpened h
 
   -- good papers, tables of the shape, a site from 0 to 7 and marks enough: taken
   pub open-complete : (q : Papers) → GoodPapers q → shaped (q .envelope) words ≡ true → site ≤ 7 → rowCount (q .envelope) words ≤ length marks

@@ -12,8 +12,6 @@ use lib.Seq.{length-sets, getD-set-same, getD-set-other}
 use Rattle.ground.specs.Outcome.Outcome.{good}
 use Rattle.ground.proofs.OutcomeLaws.{next-good}
 use Rattle.contents.specs.Parts.{relationCount}
-use Rattle.tables.specs.Offsets.{rowCount}
-use Rattle.tables.specs.Shape.{shaped}
 use Rattle.semijoin.proofs.PromiseLaws.{promise}
 use Rattle.ends.specs.Reducing.{stepCount, stepOf, placeOf}
 use Rattle.ends.specs.Ends.{appliedOf, usable, papersIn, Sound}
@@ -21,7 +19,7 @@ use Rattle.ends.specs.Messages.{bodyOf}
 use Rattle.station.specs.Receiving.{Held, appliedTo, withApplied, withArrived, receiveWith, receiveOf}
 use Rattle.ends.specs.declared.ends.End.{End}
 use Rattle.ends.proofs.EndLaws.{here-below}
-use Rattle.ends.proofs.SoundLaws.{place-less, own-papers, sound-call}
+use Rattle.ends.proofs.SoundLaws.{place-less, own-papers}
 use Rattle.station.proofs.ReceivingLaws.{StepTaken, RowsTaken, Taken, with-facts}
 
 -- an end afterwards, and what was lent
@@ -110,10 +108,3 @@ module _ (x : End) (words marks store m : List ℕ) where
         let own : q ≡ papersIn x = own-papers x (length store) sound words (length marks) q at fine in
         let mine : receiveWith (papersIn x) x words marks store m ≡ good h u = rw own at rest in
         by-kind h (with-facts (papersIn x) x words marks store m h u mine .2)
-
-    -- with tables of the shape and marks enough it is by the papers as they stand
-    pub sound-receives : shaped (x .envelope) words ≡ true → rowCount (x .envelope) words ≤ length marks
-        → receiveOf x words marks store m ≡ receiveWith (papersIn x) x words marks store m
-    unfolding receiveOf
-    sound-receives shape enough =
-        sound-call x (length store) sound words (length marks) shape enough (λ q. receiveWith q x words marks store m)

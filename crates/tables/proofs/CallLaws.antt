@@ -55,20 +55,8 @@ module _ (e : Envelope) (a : Place) (words marks : List ℕ) (start : ℕ) (out 
   values-number n p h =
       refusal-listed (columnTests e a words (length marks) ++ roomTest found start out ∷ []) found 0 n p (refl, (refl, (refl, (refl, tt)))) h
 
-  pub values-shapeless : shaped e words ≡ false → valuesOutcome e words marks a start out ≡ bad wrongShape 0
-  unfolding valuesOutcome
-  values-shapeless s = first-shape e words (length marks) valuesTests (good found 0) s
-
   module _ (s : shaped e words ≡ true) where
-    pub values-unmarked : length marks < rowCount e words → valuesOutcome e words marks a start out ≡ bad tooShort 0
-    unfolding valuesOutcome
-    values-unmarked h = then-marks e words (length marks) valuesTests (good found 0) s h
-
     module _ (h : rowCount e words ≤ length marks) where
-      pub values-nowhere : isPlace e a ≡ false → valuesOutcome e words marks a start out ≡ bad notOurs 0
-      unfolding valuesOutcome
-      values-nowhere c = then-rest e words (length marks) valuesTests (good found 0) s h ∙ rw c
-
       module _ (c : isPlace e a ≡ true) where
         pub values-narrow : length out < start + length (risingValues e words marks a)
             → valuesOutcome e words marks a start out ≡ bad tooShort 0
