@@ -27,7 +27,7 @@ use Rattle.papers.specs.declared.checks.Papers.{Papers}
 use Rattle.papers.proofs.CheckLaws.{papers-complete}
 use Rattle.papers.proofs.ExactPrograms.{program-exact}
 use Rattle.tables.specs.Shape.{marksTests}
-use Rattle.ends.specs.Ends.{papersIn as ofEnd, overApplied, soundEnd, usable, appliedOf, Marked, startOf}
+use Rattle.ends.specs.Ends.{papersOfEnd, overApplied, soundEnd, usable, appliedOf, Marked, startOf}
 use Rattle.ends.specs.Reducing.{stepOf}
 use Rattle.ends.specs.declared.ends.End.{End}
 use Rattle.ends.proofs.EndLaws.{here-below}
@@ -58,7 +58,7 @@ papers-good e p all each q at h =
     rw same at found
 
 -- checked once more, they are as they are
-own-papers : (x : End) → GoodPapers (ofEnd x) → (words : List ℕ) (n : ℕ) (q : Papers) (u : ℕ) → usable x words n ≡ good q u → q ≡ ofEnd x
+own-papers : (x : End) → GoodPapers (papersOfEnd x) → (words : List ℕ) (n : ℕ) (q : Papers) (u : ℕ) → usable x words n ≡ good q u → q ≡ papersOfEnd x
 unfolding usable soundEnd
 own-papers x fine words n q u h =
     let (f, w, sound, rest) = next-good (soundEnd x) _ q u h in
@@ -66,8 +66,8 @@ own-papers x fine words n q u h =
     let (g, v, read, counts) = next-good (papersOf (x .envelope) (x .program)) _ f w sound in
     let over : good g v ≡ good f w =
     judged-good (test (overApplied (g .program) (relationCount (g .envelope)) (x .applied)) beyondLimit 0 ∷ []) (good g v) f w .0 counts .1 in
-    let whole = sym read ∙ papers-complete (ofEnd x) fine in
-    let first : g ≡ ofEnd x = cc in
+    let whole = sym read ∙ papers-complete (papersOfEnd x) fine in
+    let first : g ≡ papersOfEnd x = cc in
     let second : g ≡ f = cc in
     let third : f ≡ q = cc in
     sym third ∙ sym second ∙ first
@@ -87,7 +87,7 @@ module _ (e p s : List ℕ) where
       (ltb-false _ _ (each-passes (test (ltb (length s) 19) tooShort 0 ∷ []) short .0), q, read ∙ ap (good q) place, sym same)
 
   -- the words of an end with the same papers read as that end
-  read-again : 19 ≤ length s → (q : Papers) (at : ℕ) → papersIn e p ≡ good q at → (x : End) → ofEnd x ≡ q → Sayable x s
+  read-again : 19 ≤ length s → (q : Papers) (at : ℕ) → papersIn e p ≡ good q at → (x : End) → papersOfEnd x ≡ q → Sayable x s
       → endIn e p (stateAfter x s) ≡ good x at
   unfolding endIn stateAfter
   read-again long q at read x own sayable =
@@ -131,14 +131,14 @@ module _ (q : Papers) (fine : GoodPapers q) (s words marks store m : List ℕ) (
 
   -- either way the papers stay
   taken-sayable : length store ≤ 4294967295 → (h : Held) (u : ℕ) → receiveOf x words marks store m ≡ good h u
-      → (ofEnd (h .end) ≡ q) × Sayable (h .end) s
+      → (papersOfEnd (h .end) ≡ q) × Sayable (h .end) s
   unfolding receiveOf withApplied appliedTo withArrived endOf
   taken-sayable small h u received =
       let (f, at, found, rest) = next-good (usable x words (length marks)) _ h u received in
       let own : f ≡ q = own-papers x fine words (length marks) f at found in
       go f own (with-facts f x words marks store m h u rest .2)
     where
-      go : (f : Papers) → f ≡ q → Taken f x words marks store m h → (ofEnd (h .end) ≡ q) × Sayable (h .end) s
+      go : (f : Papers) → f ≡ q → Taken f x words marks store m h → (papersOfEnd (h .end) ≡ q) × Sayable (h .end) s
       go f own (inl (n, _, t, _)) =
           let r = stepOf (f .program) n .left .relation in
           rw (t .end) (refl, step-sayable r (appliedOf x r + 1) (subst (λ (y : Papers). r < relationCount (y .envelope)) own (here-below (f .envelope) (x .site) r (t .here))))

@@ -24,11 +24,11 @@ use Rattle.estimates.specs.Estimate.{line, linesOf, estimated}
 use Rattle.estimates.specs.Profile.{localProfile}
 use Rattle.estimates.specs.declared.lines.Line.{Line}
 use Rattle.estimates.proofs.EstimateLaws.{lines-length, lines-steps}
-use Rattle.planner.specs.Plan.{planFor, planOf, planned as handed}
+use Rattle.planner.specs.Plan.{planFor, planOf, planned}
 use Rattle.planner.proofs.PlanLaws.{plan-part, plan-legal, plan-site, part-few}
 use Rattle.planner.proofs.DropCodeLaws.{with-steps, with-acceptable}
 use Rattle.boundary.specs.Given.{papersIn}
-use Rattle.boundary.specs.Planning.{stepsIn, programOf, programFor, planned}
+use Rattle.boundary.specs.Planning.{lineSteps, programOf, programFor, planChecked}
 
 map-alike : {A B : Type 0} (f : A → B) (n : ℕ) (z : A) → map f (replicate n z) ≡ replicate n (f z)
 map-alike f zero z = refl
@@ -37,39 +37,39 @@ map-alike {A} {B} f (suc n) z = ap (λ (l : List B). f z ∷ l) (map-alike f n z
 -- the lines' steps are the program's, and zeros stand behind them
 module _ (e : Envelope) where
   abbrev steps : List Step
-  steps = handed plainCosts e .steps
+  steps = planned plainCosts e .steps
 
   abbrev lines : List Line
   lines = linesOf plainCosts e (localProfile e) steps
 
-  steps-stand : stepsIn (padded 156 (line noStep 0 0) lines) ≡ padded 156 noStep steps
-  unfolding stepsIn padded
+  steps-stand : lineSteps (padded 156 (line noStep 0 0) lines) ≡ padded 156 noStep steps
+  unfolding lineSteps padded
   steps-stand =
       map-append (λ (l : Line). l .step) lines (replicate (156 - length lines) (line noStep 0 0))
       ∙ rw (lines-steps plainCosts e (localProfile e) steps, lines-length plainCosts e (localProfile e) steps)
       (ap (λ (l : List Step). steps ++ l) (map-alike (λ (l : Line). l .step) (156 - length steps) (line noStep 0 0)))
 
-  as-handed : programOf (planFor plainCosts e) ≡ programWith (handed plainCosts e .site) steps
+  as-handed : programOf (planFor plainCosts e) ≡ programWith (planned plainCosts e .site) steps
   unfolding programOf planFor estimated
-  as-handed = ap (λ (l : List Step). record { site = handed plainCosts e .site; count = length steps; steps = l }) steps-stand
+  as-handed = ap (λ (l : List Step). record { site = planned plainCosts e .site; count = length steps; steps = l }) steps-stand
 
   module _ (w : Within e) where
-    handed-acceptable : Acceptable e (programWith (handed plainCosts e .site) steps)
+    handed-acceptable : Acceptable e (programWith (planned plainCosts e .site) steps)
     unfolding planFor
     handed-acceptable =
-        with-acceptable e (handed plainCosts e .site) steps (plan-site plainCosts e w) (part-few plainCosts e w steps (plan-part plainCosts e))
+        with-acceptable e (planned plainCosts e .site) steps (plan-site plainCosts e w) (part-few plainCosts e w steps (plan-part plainCosts e))
         (plan-legal plainCosts e)
 
-    handed-tidy : tidyProgram (programWith (handed plainCosts e .site) steps) ≡ programWith (handed plainCosts e .site) steps
+    handed-tidy : tidyProgram (programWith (planned plainCosts e .site) steps) ≡ programWith (planned plainCosts e .site) steps
     unfolding tidyProgram
-    handed-tidy = ap (programWith (handed plainCosts e .site)) (with-steps e (handed plainCosts e .site) steps)
+    handed-tidy = ap (programWith (planned plainCosts e .site)) (with-steps e (planned plainCosts e .site) steps)
 
 -- for an envelope that was read
 module _ (s : List ℕ) (bytes : Bytes s) (e : Envelope) (at : ℕ) (read : readEnvelope s ≡ good e at) where
   within : Within e
   within = envelope-exact s e at bytes .0 read .0 .0
 
-  is-handed : programFor s ≡ programWith (handed plainCosts e .site) (steps e)
+  is-handed : programFor s ≡ programWith (planned plainCosts e .site) (steps e)
   unfolding programFor planOf
   is-handed = ap (λ (o : Outcome Envelope). programOf (planOf o)) read ∙ as-handed e
 
@@ -82,8 +82,8 @@ module _ (s : List ℕ) (bytes : Bytes s) (e : Envelope) (at : ℕ) (read : read
       ∙ ap (λ (p : Program). good p (length (programBytes (programFor s)))) (ap tidyProgram is-handed ∙ handed-tidy e within ∙ sym is-handed)
 
   -- so plan is refused by 11 alone
-  pub plan-good : planned s ≡ good (programFor s) (length (programBytes (programFor s)))
-  unfolding planned checkProgram
+  pub plan-good : planChecked s ≡ good (programFor s) (length (programBytes (programFor s)))
+  unfolding planChecked checkProgram
   plan-good = rw read plan-back
 
   -- both papers, as every call that takes a program reads them
@@ -92,8 +92,8 @@ module _ (s : List ℕ) (bytes : Bytes s) (e : Envelope) (at : ℕ) (read : read
   plan-papers = rw (read, plan-back)
 
   -- and so is what plan leaves at the front of the buffer, as far as the length that it answers
-  pub plan-left : (out : List ℕ) (n : ℕ) → writtenOf (planned s) (programBytes (programFor s)) out ≡ Length n
-      → papersIn s (take n (writtenIn (planned s) (programBytes (programFor s)) out)) ≡ good (record { envelope = e; program = programFor s }) n
+  pub plan-left : (out : List ℕ) (n : ℕ) → writtenOf (planChecked s) (programBytes (programFor s)) out ≡ Length n
+      → papersIn s (take n (writtenIn (planChecked s) (programBytes (programFor s)) out)) ≡ good (record { envelope = e; program = programFor s }) n
   plan-left out n w =
-      let (_, _, _, long, same) = written-back (planned s) (programBytes (programFor s)) out n w in
+      let (_, _, _, long, same) = written-back (planChecked s) (programBytes (programFor s)) out n w in
       rw same (plan-papers ∙ ap (good (record { envelope = e; program = programFor s })) (sym long))

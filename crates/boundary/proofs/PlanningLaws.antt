@@ -39,13 +39,13 @@ use Rattle.station.specs.declared.making.Made.{Made}
 use Rattle.station.specs.declared.making.Made.the-variants as made
 use Rattle.boundary.specs.Answers.{answerWord, writtenWord, madeWord}
 use Rattle.boundary.specs.Given.{papersIn}
-use Rattle.boundary.specs.Planning.{stepsIn, programOf, programFor, planned, pairOf, lineWords, estimateWords, unless, estimateWith, estimateFrom}
+use Rattle.boundary.specs.Planning.{lineSteps, programOf, programFor, planChecked, pairOf, lineWords, estimateWords, unless, estimateWith, estimateFrom}
 use Rattle.boundary.proofs.CallLaws.{refused-says, taken-says}
 
 -- ---- the steps of a plan's lines
 
-steps-long : (lines : List Line) → length (stepsIn lines) ≡ length lines
-unfolding stepsIn
+steps-long : (lines : List Line) → length (lineSteps lines) ≡ length lines
+unfolding lineSteps
 steps-long lines = length-map lines (λ (l : Line). l .step)
 
 sets-whole : {A : Type 0} (l xs : List A) → length l ≡ length xs → sets l 0 xs ≡ xs
@@ -54,25 +54,25 @@ sets-whole {A} l xs h =
     let none : drop (0 + length xs) l ≡ [] = drop-of-length-le l within in
     sets-eq xs l 0 (omega (arith, h)) ∙ ap (λ (r : List A). xs ++ r) none ∙ append-nil xs
 
-pub steps-start : (lines : List Line) → 156 ≡ length lines → 156 ≤ length (stepsIn lines)
+pub steps-start : (lines : List Line) → 156 ≡ length lines → 156 ≤ length (lineSteps lines)
 steps-start lines h = omega (arith, h, steps-long lines)
 
-module _ (lines : List Line) (before : List Step) (i : ℕ) (steps : List Step) (c : Copying (stepsIn lines) before 0 156 i i steps)
+module _ (lines : List Line) (before : List Step) (i : ℕ) (steps : List Step) (c : Copying (lineSteps lines) before 0 156 i i steps)
     (long : 156 ≡ length lines) where
-  pub steps-more : i < 156 → (d : Line) (s : Step) → s ≡ getD lines i d .step → Copying (stepsIn lines) before 0 156 (i + 1) (i + 1) (set steps i s)
-  unfolding stepsIn
+  pub steps-more : i < 156 → (d : Line) (s : Step) → s ≡ getD lines i d .step → Copying (lineSteps lines) before 0 156 (i + 1) (i + 1) (set steps i s)
+  unfolding lineSteps
   steps-more h d s e =
-      let same : getD (stepsIn lines) i (d .step) ≡ s =
+      let same : getD (lineSteps lines) i (d .step) ≡ s =
       getD-map (λ (l : Line). l .step) lines i d (d .step) (omega (arith, long)) ∙ sym e in
-      rw same at (copying-more (stepsIn lines) before 0 156 i i steps c (d .step) h)
+      rw same at (copying-more (lineSteps lines) before 0 156 i i steps c (d .step) h)
 
-  pub steps-done : 156 ≤ i → 156 ≡ length before → steps ≡ stepsIn lines
+  pub steps-done : 156 ≤ i → 156 ≡ length before → steps ≡ lineSteps lines
   steps-done h b =
-      copying-done (stepsIn lines) before 0 156 i i steps c h
-      ∙ ap (λ (w : List Step). sets before 0 w) (take-all 156 (stepsIn lines) (omega (arith, long, steps-long lines)))
-      ∙ sets-whole before (stepsIn lines) (omega (arith, b, long, steps-long lines))
+      copying-done (lineSteps lines) before 0 156 i i steps c h
+      ∙ ap (λ (w : List Step). sets before 0 w) (take-all 156 (lineSteps lines) (omega (arith, long, steps-long lines)))
+      ∙ sets-whole before (lineSteps lines) (omega (arith, b, long, steps-long lines))
 
-pub program-is : (s : List ℕ) (x : Plan) (steps : List Step) → x ≡ planOf (readEnvelope s) → steps ≡ stepsIn (x .lines)
+pub program-is : (s : List ℕ) (x : Plan) (steps : List Step) → x ≡ planOf (readEnvelope s) → steps ≡ lineSteps (x .lines)
     → record { site = x .site; count = x .count; steps = steps } ≡ programFor s
 unfolding programFor programOf
 program-is s x steps e f = rw f (ap programOf e)
@@ -87,15 +87,15 @@ module _ (s out : List ℕ) (c : EnvelopeRead) (g : c ≡ shownEnvelope (readEnv
   abbrev planning : Envelope → Outcome Program
   planning e = checkProgram e (programFor s)
 
-  pub plan-refused : (m u r : ℕ) → c .verdict ≡ Refused m u → r ≡ answerWord m u → Plans r out (planned s)
-  unfolding writtenOf writtenIn writtenWord planned
+  pub plan-refused : (m u r : ℕ) → c .verdict ≡ Refused m u → r ≡ answerWord m u → Plans r out (planChecked s)
+  unfolding writtenOf writtenIn writtenWord planChecked
   plan-refused m u r t k =
       refused-says (readEnvelope s) (λ e _. planning e) (Plans r out) m u (read-refused (readEnvelope s) c m u g t) (k, refl)
 
   pub plan-taken : c .verdict ≡ Taken → (h : Program) (v : Written) (after : List ℕ) (r : ℕ) → h ≡ programFor s
       → (v ≡ programWritten (c .envelope) h out) × (after ≡ programWrittenIn (c .envelope) h out) → r ≡ writtenWord v
-      → Plans r after (planned s)
-  unfolding planned
+      → Plans r after (planChecked s)
+  unfolding planChecked
   plan-taken t h v after r e l k =
       taken-says (readEnvelope s) (λ e _. planning e) (Plans r after) (c .envelope) _ (read-taken (readEnvelope s) c g t)
       (rw (← e) (k ∙ ap writtenWord (l .0), l .1))

@@ -19,10 +19,10 @@ use Rattle.ground.proofs.NumbersLaws.{below-getD}
 use Rattle.ground.proofs.CountLaws.{split}
 use Rattle.contents.specs.Parts.{relationCount}
 use Rattle.papers.specs.declared.checks.Papers.{Papers}
-use Rattle.ends.specs.Ends.{papersIn}
+use Rattle.ends.specs.Ends.{papersOfEnd}
 use Rattle.ends.specs.declared.ends.End.{End}
 use Rattle.boundary.specs.Answers.{asWord}
-use Rattle.boundary.specs.States.{places, appliedIn, arrivedIn, unclearAt, unclear, endOf, bitOf, appliedWord, wordsOf, stateAfter}
+use Rattle.boundary.specs.States.{zeroToSeven, appliedIn, arrivedIn, unclearAt, unclear, endOf, bitOf, appliedWord, stateWords, stateAfter}
 use Rattle.boundary.proofs.AnswerLaws.{word-least}
 use Rattle.boundary.proofs.StateLaws.{words-are, words-long, applied-own, applied-behind}
 
@@ -58,7 +58,7 @@ module _ (q : Papers) (s : List ℕ) (sure : unclear s ≡ false) (counted : get
   stays : (r : ℕ) → getD s (3 + r) 0 ≡ pick (ltb r (relationCount (q .envelope))) (getD s (3 + r) 0) (getD s (3 + r) 0)
   stays r = sym (either-same (ltb r (relationCount (q .envelope))) (getD s (3 + r) 0))
 
-  words-back : map (λ j. getD s j 0) (numbersFrom 0 19) ≡ wordsOf (endOf q s) s
+  words-back : map (λ j. getD s j 0) (numbersFrom 0 19) ≡ stateWords (endOf q s) s
   unfolding endOf appliedIn arrivedIn appliedWord asWord numbersFrom
   words-back =
       words-are (endOf q s) s (relationCount (q .envelope)) refl _ _ _ _ _ _ _ _ _ (omega (arith, counted)) (stays 0) (stays 1) (stays 2)
@@ -72,9 +72,9 @@ module _ (q : Papers) (s : List ℕ) (sure : unclear s ≡ false) (counted : get
 -- ---- what is read of words that were written
 
 module _ (x : End) (s : List ℕ) (long : 19 ≤ length s) where
-  stands : stateAfter x s ≡ wordsOf x s ++ drop 19 s
-  unfolding stateAfter wordsOf
-  stands = sets-eq (wordsOf x s) s 0 (omega (arith, long, words-long x s))
+  stands : stateAfter x s ≡ stateWords x s ++ drop 19 s
+  unfolding stateAfter stateWords
+  stands = sets-eq (stateWords x s) s 0 (omega (arith, long, words-long x s))
 
   bit-least : (b : Bool) → ltb 1 (bitOf b) ≡ false
   unfolding bitOf
@@ -88,22 +88,22 @@ module _ (x : End) (s : List ℕ) (long : 19 ≤ length s) where
 
   -- no call refuses them by 4
   pub state-clear : unclear (stateAfter x s) ≡ false
-  unfolding unclear unclearAt wordsOf numbersFrom
+  unfolding unclear unclearAt stateWords numbersFrom
   state-clear =
       rw stands (simp bit-least)
 
   -- the end that they are: x, with what the words said behind its last relation
-  read-back : endOf (papersIn x) (stateAfter x s)
+  read-back : endOf (papersOfEnd x) (stateAfter x s)
       ≡ record {
         envelope = x .envelope;
         program = x .program;
         site = x .site;
         run = x .run;
-        applied = map (appliedWord (relationCount (x .envelope)) (x .applied) s) places;
-        arrived = map (λ r. getD (x .arrived) r false) places;
+        applied = map (appliedWord (relationCount (x .envelope)) (x .applied) s) zeroToSeven;
+        arrived = map (λ r. getD (x .arrived) r false) zeroToSeven;
         used = asWord (x .used);
       }
-  unfolding endOf appliedIn arrivedIn wordsOf
+  unfolding endOf appliedIn arrivedIn stateWords
   read-back =
       rw stands (simp bit-said)
 
@@ -111,7 +111,7 @@ module _ (x : End) (s : List ℕ) (long : 19 ≤ length s) where
 
 -- a state of 19 words is what is written of the end that it is, exactly where no arrived word is unclear and used is a word
 pub state-exact : (q : Papers) (s : List ℕ) → 19 ≤ length s → (stateAfter (endOf q s) s ≡ s) ↔ ((unclear s ≡ false) × (getD s 2 0 ≤ 4294967295))
-unfolding endOf wordsOf
+unfolding endOf stateWords
 state-exact q s long = (
   λ e. (
     ap unclear (sym e) ∙ state-clear (endOf q s) s long,
@@ -127,18 +127,18 @@ pub record Sayable (x : End) (s : List ℕ) : Type 0 where
   pub eight : (length (x .applied) ≡ 8) × (length (x .arrived) ≡ 8)
   pub behind : (r : ℕ) → relationCount (x .envelope) ≤ r → r < 8 → getD (x .applied) r 0 ≡ getD s (3 + r) 0
 
-eight-places : places ≡ below 8
+eight-places : zeroToSeven ≡ below 8
 unfolding numbersFrom
 eight-places = refl
 
-pub place-getD : {A : Type 0} (f : ℕ → A) (r : ℕ) (d : A) → r < 8 → getD (map f places) r d ≡ f r
-place-getD f r d h = getD-map f places r 0 d h ∙ ap f (ap (λ (l : List ℕ). getD l r 0) eight-places ∙ below-getD 8 r 0 h)
+pub place-getD : {A : Type 0} (f : ℕ → A) (r : ℕ) (d : A) → r < 8 → getD (map f zeroToSeven) r d ≡ f r
+place-getD f r d h = getD-map f zeroToSeven r 0 d h ∙ ap f (ap (λ (l : List ℕ). getD l r 0) eight-places ∙ below-getD 8 r 0 h)
 
 module _ (x : End) (s : List ℕ) (long : 19 ≤ length s) where
   abbrev own : ℕ → ℕ
   own r = appliedWord (relationCount (x .envelope)) (x .applied) s r
 
-  end-back : Sayable x s → endOf (papersIn x) (stateAfter x s) ≡ x
+  end-back : Sayable x s → endOf (papersOfEnd x) (stateAfter x s) ≡ x
   unfolding asWord
   end-back h =
       read-back x s long
@@ -147,20 +147,20 @@ module _ (x : End) (s : List ℕ) (long : 19 ≤ length s) where
       used-same : asWord (x .used) ≡ x .used
       used-same = omega (arith, h .counted)
 
-      applied-same : map own places ≡ x .applied
-      applied-same = ext-getD 0 (map own places) (x .applied) (sym (h .eight .0)) (λ r k.
+      applied-same : map own zeroToSeven ≡ x .applied
+      applied-same = ext-getD 0 (map own zeroToSeven) (x .applied) (sym (h .eight .0)) (λ r k.
           place-getD own r 0 k ∙ split (relationCount (x .envelope)) r
           (λ l. sym (applied-behind (relationCount (x .envelope)) (x .applied) s r l) ∙ sym (h .behind r l k))
           (λ l. sym (applied-own (relationCount (x .envelope)) (x .applied) s r l)))
 
-      arrived-same : map (λ r. getD (x .arrived) r false) places ≡ x .arrived
-      arrived-same = ext-getD false (map (λ r. getD (x .arrived) r false) places) (x .arrived) (sym (h .eight .1)) (λ r k. place-getD (λ r. getD (x .arrived) r false) r false k)
+      arrived-same : map (λ r. getD (x .arrived) r false) zeroToSeven ≡ x .arrived
+      arrived-same = ext-getD false (map (λ r. getD (x .arrived) r false) zeroToSeven) (x .arrived) (sym (h .eight .1)) (λ r k. place-getD (λ r. getD (x .arrived) r false) r false k)
 
-  end-sayable : endOf (papersIn x) (stateAfter x s) ≡ x → Sayable x s
+  end-sayable : endOf (papersOfEnd x) (stateAfter x s) ≡ x → Sayable x s
   end-sayable e =
       let same = sym (read-back x s long) ∙ e in
-      let applied : map own places ≡ x .applied = ap (λ (y : End). y .applied) same in
-      let arrived : map (λ r. getD (x .arrived) r false) places ≡ x .arrived = ap (λ (y : End). y .arrived) same in
+      let applied : map own zeroToSeven ≡ x .applied = ap (λ (y : End). y .applied) same in
+      let arrived : map (λ r. getD (x .arrived) r false) zeroToSeven ≡ x .arrived = ap (λ (y : End). y .arrived) same in
       let used : asWord (x .used) ≡ x .used = ap (λ (y : End). y .used) same in
       record {
         counted = rw used at (word-least (x .used));
@@ -169,5 +169,5 @@ module _ (x : End) (s : List ℕ) (long : 19 ≤ length s) where
       }
 
   -- an end is what is read of the words that are written of it, exactly where they can say it
-  pub end-exact : (endOf (papersIn x) (stateAfter x s) ≡ x) ↔ Sayable x s
+  pub end-exact : (endOf (papersOfEnd x) (stateAfter x s) ≡ x) ↔ Sayable x s
   end-exact = (end-sayable, end-back)

@@ -14,7 +14,7 @@ use Rattle.contents.specs.Parts.{relationCount}
 use Rattle.papers.specs.declared.checks.Papers.{Papers}
 use Rattle.ends.specs.declared.ends.End.{End}
 use Rattle.boundary.specs.Answers.{asWord}
-use Rattle.boundary.specs.States.{appliedIn, arrivedIn, unclearAt, unclear, endOf, bitOf, appliedWord, wordsOf, stateAfter}
+use Rattle.boundary.specs.States.{appliedIn, arrivedIn, unclearAt, unclear, endOf, bitOf, appliedWord, stateWords, stateAfter}
 
 -- ---- an arrived word that is neither 0 nor 1
 
@@ -86,19 +86,19 @@ module _ (x : End) (s : List ℕ) (n : ℕ) (e : n ≡ relationCount (x .envelop
   pub words-are : (u a b c d f g h i : ℕ) → u ≡ asWord (x .used) → a ≡ own 0 → b ≡ own 1 → c ≡ own 2 → d ≡ own 3 → f ≡ own 4 → g ≡ own 5
       → h ≡ own 6 → i ≡ own 7 → (A B C D F G H I : ℕ) → A ≡ mark 0 → B ≡ mark 1 → C ≡ mark 2 → D ≡ mark 3 → F ≡ mark 4 → G ≡ mark 5 → H ≡ mark 6
       → I ≡ mark 7
-      → (x .site ∷ x .run ∷ u ∷ a ∷ b ∷ c ∷ d ∷ f ∷ g ∷ h ∷ i ∷ A ∷ B ∷ C ∷ D ∷ F ∷ G ∷ H ∷ I ∷ []) ≡ wordsOf x s
-  unfolding wordsOf
+      → (x .site ∷ x .run ∷ u ∷ a ∷ b ∷ c ∷ d ∷ f ∷ g ∷ h ∷ i ∷ A ∷ B ∷ C ∷ D ∷ F ∷ G ∷ H ∷ I ∷ []) ≡ stateWords x s
+  unfolding stateWords
   words-are u a b c d f g h i eu ea eb ec ed ef eg eh ei A B C D F G H I eA eB eC eD eF eG eH eI =
       rw (eu, ea, eb, ec, ed, ef, eg, eh, ei, eA, eB, eC, eD, eF, eG, eH, eI, e) refl
 
-pub words-long : (x : End) (s : List ℕ) → length (wordsOf x s) ≡ 19
-unfolding wordsOf
+pub words-long : (x : End) (s : List ℕ) → length (stateWords x s) ≡ 19
+unfolding stateWords
 words-long x s = refl
 
-pub state-put : (x : End) (s words after : List ℕ) (i p : ℕ) → words ≡ wordsOf x s → Copying words s 0 19 i p after → 19 ≤ i
+pub state-put : (x : End) (s words after : List ℕ) (i p : ℕ) → words ≡ stateWords x s → Copying words s 0 19 i p after → 19 ≤ i
     → after ≡ stateAfter x s
 unfolding stateAfter
 state-put x s words after i p e c h =
     copying-done words s 0 19 i p after c h
     ∙ ap (λ (w : List ℕ). sets s 0 (take 19 w)) e
-    ∙ ap (λ (w : List ℕ). sets s 0 w) (take-all 19 (wordsOf x s) (omega (arith, words-long x s)))
+    ∙ ap (λ (w : List ℕ). sets s 0 w) (take-all 19 (stateWords x s) (omega (arith, words-long x s)))

@@ -23,18 +23,18 @@ use Rattle.boundary.specs.Given.{papersIn}
 
 -- ---- the program handed out
 
-unfoldable pub stepsIn : List Line → List Step
-stepsIn lines = map (λ (l : Line). l .step) lines
+unfoldable pub lineSteps : List Line → List Step
+lineSteps lines = map (λ (l : Line). l .step) lines
 
 unfoldable pub programOf : Plan → Program
-programOf x = record { site = x .site; count = x .count; steps = stepsIn (x .lines) }
+programOf x = record { site = x .site; count = x .count; steps = lineSteps (x .lines) }
 
 unfoldable pub programFor : List ℕ → Program
 programFor s = programOf (planOf (readEnvelope s))
 
 -- checked before it is written, as any program is
-unfoldable pub planned : List ℕ → Outcome Program
-planned s = next (readEnvelope s) (λ e _. checkProgram e (programFor s))
+unfoldable pub planChecked : List ℕ → Outcome Program
+planChecked s = next (readEnvelope s) (λ e _. checkProgram e (programFor s))
 
 -- ---- the estimate
 

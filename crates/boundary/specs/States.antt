@@ -13,17 +13,17 @@ use Rattle.papers.specs.declared.checks.Papers.{Papers}
 use Rattle.ends.specs.declared.ends.End.{End}
 use Rattle.boundary.specs.Answers.{asWord}
 
--- the eight places of relations
-abbrev pub places : List ℕ
-places = 0 ∷ 1 ∷ 2 ∷ 3 ∷ 4 ∷ 5 ∷ 6 ∷ 7 ∷ []
+-- the numbers of the eight places for relations
+abbrev pub zeroToSeven : List ℕ
+zeroToSeven = 0 ∷ 1 ∷ 2 ∷ 3 ∷ 4 ∷ 5 ∷ 6 ∷ 7 ∷ []
 
 -- ---- read
 
 unfoldable pub appliedIn : List ℕ → List ℕ
-appliedIn s = map (λ r. getD s (3 + r) 0) places
+appliedIn s = map (λ r. getD s (3 + r) 0) zeroToSeven
 
 unfoldable pub arrivedIn : List ℕ → List Bool
-arrivedIn s = map (λ r. eqb (getD s (11 + r) 0) 1) places
+arrivedIn s = map (λ r. eqb (getD s (11 + r) 0) 1) zeroToSeven
 
 -- an arrived word that is neither 0 nor 1; one of the eight
 unfoldable pub unclearAt : List ℕ → ℕ → Bool
@@ -54,14 +54,14 @@ bitOf b = pick b 1 0
 unfoldable pub appliedWord : ℕ → List ℕ → List ℕ → ℕ → ℕ
 appliedWord relations applied s r = pick (ltb r relations) (getD applied r 0) (getD s (3 + r) 0)
 
-unfoldable pub wordsOf : End → List ℕ → List ℕ
-wordsOf x s =
+unfoldable pub stateWords : End → List ℕ → List ℕ
+stateWords x s =
     x .site
     ∷ x .run
     ∷ asWord (x .used)
-    ∷ map (appliedWord (relationCount (x .envelope)) (x .applied) s) places
-    ++ map (λ r. bitOf (getD (x .arrived) r false)) places
+    ∷ map (appliedWord (relationCount (x .envelope)) (x .applied) s) zeroToSeven
+    ++ map (λ r. bitOf (getD (x .arrived) r false)) zeroToSeven
 
 -- the state afterwards
 unfoldable pub stateAfter : End → List ℕ → List ℕ
-stateAfter x s = sets s 0 (wordsOf x s)
+stateAfter x s = sets s 0 (stateWords x s)

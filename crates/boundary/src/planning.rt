@@ -17,9 +17,9 @@ ghost use Rattle.papers.specs.Programs.{programBytes};
 ghost use Rattle.station.specs.Making.{shownMade, madeIn};
 ghost use Rattle.boundary.specs.Answers.{writtenWord, madeWord};
 ghost use Rattle.boundary.specs.Planning.{
-  stepsIn,
+  lineSteps,
   programFor,
-  planned,
+  planChecked,
   pairOf,
   lineWords,
   estimateWith,
@@ -27,8 +27,8 @@ ghost use Rattle.boundary.specs.Planning.{
 };
 
 // The steps of a plan's lines.
-fn steps_in(lines: [Line; 156]) -> [Step; 156]
-    ensures { λ r. ⌜ r ≡ stepsIn lines ⌝ }
+fn line_steps(lines: [Line; 156]) -> [Step; 156]
+    ensures { λ r. ⌜ r ≡ lineSteps lines ⌝ }
 {
     let mut steps = [papers::programs::no_step(); 156];
     let mut i: usize = 0;
@@ -47,7 +47,7 @@ fn program_for(envelope: &[u8]) -> Program
 {
     let plan = planner::planner::plan_paper(envelope);
     let lines = plan.lines;
-    let steps = steps_in(lines);
+    let steps = line_steps(lines);
     Program {
         site: plan.site,
         count: plan.count,
@@ -58,7 +58,7 @@ fn program_for(envelope: &[u8]) -> Program
 // 3: the program for an envelope, at the front of program. Taken, the bytes written.
 #[no_mangle]
 pub extern "C" fn legestran_plan(envelope: &[u8], program: &mut [u8]) -> u64
-    ensures { λ r. ⌜ (r ≡ writtenWord (writtenOf (planned (now (envelope .entry))) (programBytes (programFor (now (envelope .entry)))) (now (program .entry)))) × (now (program .exit) ≡ writtenIn (planned (now (envelope .entry))) (programBytes (programFor (now (envelope .entry)))) (now (program .entry))) ⌝ }
+    ensures { λ r. ⌜ (r ≡ writtenWord (writtenOf (planChecked (now (envelope .entry))) (programBytes (programFor (now (envelope .entry)))) (now (program .entry)))) × (now (program .exit) ≡ writtenIn (planChecked (now (envelope .entry))) (programBytes (programFor (now (envelope .entry)))) (now (program .entry))) ⌝ }
 {
     let read = envelopes::reading::read_envelope(envelope);
     let verdict = read.verdict;

@@ -4,7 +4,7 @@ use papers::checks::Papers;
 ghost use mathlib.Core.Path.{_≡_};
 ghost use Prim.Native.Nat.{_≤_, _<_, min};
 ghost use lib.ListN.{length};
-ghost use Rattle.boundary.specs.States.{unclear, endOf, bitOf, appliedWord, wordsOf, stateAfter};
+ghost use Rattle.boundary.specs.States.{unclear, endOf, bitOf, appliedWord, stateWords, stateAfter};
 
 // Whether an arrived word is neither 0 nor 1.
 pub(crate) fn is_unclear(state: &[u32]) -> bool
@@ -85,7 +85,7 @@ fn applied_word(relations: usize, applied: [u32; 8], state: &[u32], relation: us
 
 fn words_of(end: End, state: &[u32]) -> [u32; 19]
     requires { ⌜ 19 ≤ length (now state) ⌝ }
-    ensures { λ r. ⌜ r ≡ wordsOf end (now (state .entry)) ⌝ }
+    ensures { λ r. ⌜ r ≡ stateWords end (now (state .entry)) ⌝ }
 {
     let envelope = end.envelope;
     let n = ground::used::in_use(8, envelope.relation_count);

@@ -14,7 +14,7 @@ use Rattle.contents.specs.Kept.{keptColumns}
 use Rattle.papers.specs.declared.checks.Papers.{Papers}
 use Rattle.semijoin.specs.Marks.{reducedBy}
 use Rattle.tables.specs.Values.{risingValues}
-use Rattle.ends.specs.Reducing.{stepCount, stepOf, placeOf, isMissing}
+use Rattle.ends.specs.Reducing.{stepCount, stepOf, stepsBefore, isMissing}
 use Rattle.ends.specs.Ends.{appliedOf, hasArrived}
 use Rattle.ends.specs.Messages.{valueMessage, rowMessage, runOf, secondOf, bodyOf, aboutOf, counted, soundValues}
 use Rattle.station.specs.Making.{fitted, valuesWith, rowsWith, sentRows}
@@ -24,7 +24,7 @@ use Rattle.ends.specs.declared.ends.End.{End}
 
 module _ (q : Papers) (x : End) (words marks : List ℕ) where
   pub values-go : (n room : ℕ) → n < stepCount (q .program) → isAt (q .envelope) (x .site) (stepOf (q .program) n .right .relation) ≡ true
-      → placeOf (q .program) (stepOf (q .program) n .right .relation) n ≤ appliedOf x (stepOf (q .program) n .right .relation)
+      → stepsBefore (q .program) (stepOf (q .program) n .right .relation) n ≤ appliedOf x (stepOf (q .program) n .right .relation)
       → length (valueMessage (x .run) n (risingValues (q .envelope) words marks (stepOf (q .program) n .right))) ≤ room
       → valuesWith q x words marks n room
       ≡ good (valueMessage (x .run) n (risingValues (q .envelope) words marks (stepOf (q .program) n .right)))
@@ -36,23 +36,23 @@ module _ (q : Papers) (x : End) (words marks : List ℕ) where
       rw (
         lt-ltb n (stepCount (q .program)) few,
         here,
-        le-ltb (appliedOf x (b .relation)) (placeOf (q .program) (b .relation) n) ready,
+        le-ltb (appliedOf x (b .relation)) (stepsBefore (q .program) (b .relation) n) ready,
         le-ltb room (length m) fits,
       )
 
-  pub rows-go : (r room : ℕ) → isAt (q .envelope) (x .site) r ≡ true → placeOf (q .program) r (stepCount (q .program)) ≤ appliedOf x r
+  pub rows-go : (r room : ℕ) → isAt (q .envelope) (x .site) r ≡ true → stepsBefore (q .program) r (stepCount (q .program)) ≤ appliedOf x r
       → length (rowMessage (x .run) r (sentRows (q .envelope) words marks r)) ≤ room
       → rowsWith q x words marks r room
       ≡ good (rowMessage (x .run) r (sentRows (q .envelope) words marks r)) (length (rowMessage (x .run) r (sentRows (q .envelope) words marks r)))
   unfolding rowsWith isMissing fitted
   rows-go r room here ready fits =
       let m = rowMessage (x .run) r (sentRows (q .envelope) words marks r) in
-      rw (here, le-ltb (appliedOf x r) (placeOf (q .program) r (stepCount (q .program))) ready, le-ltb room (length m) fits)
+      rw (here, le-ltb (appliedOf x r) (stepsBefore (q .program) r (stepCount (q .program))) ready, le-ltb room (length m) fits)
 
   module _ (store m : List ℕ) (three : 3 ≤ length m) (own : runOf m ≡ x .run) where
     pub values-come : (n : ℕ) → aboutOf (stepCount (q .program)) (relationCount (q .envelope)) (secondOf m) ≡ about.Step n
         → isAt (q .envelope) (x .site) (stepOf (q .program) n .left .relation) ≡ true → soundValues m ≡ true
-        → appliedOf x (stepOf (q .program) n .left .relation) ≡ placeOf (q .program) (stepOf (q .program) n .left .relation) n
+        → appliedOf x (stepOf (q .program) n .left .relation) ≡ stepsBefore (q .program) (stepOf (q .program) n .left .relation) n
         → receiveWith q x words marks store m
         ≡ good
         (record {
@@ -64,16 +64,16 @@ module _ (q : Papers) (x : End) (words marks : List ℕ) where
     unfolding receiveWith taken valuesTaken
     values-come n spoken here sound next =
         let r = stepOf (q .program) n .left .relation in
-        let low : appliedOf x r ≤ placeOf (q .program) r n = omega (arith, next) in
-        let high : placeOf (q .program) r n ≤ appliedOf x r = omega (arith, next) in
+        let low : appliedOf x r ≤ stepsBefore (q .program) r n = omega (arith, next) in
+        let high : stepsBefore (q .program) r n ≤ appliedOf x r = omega (arith, next) in
         rw (
           le-ltb (length m) 3 three,
           eq-eqb (runOf m) (x .run) own,
           spoken,
           here,
           sound,
-          le-ltb (placeOf (q .program) r n) (appliedOf x r) low,
-          le-ltb (appliedOf x r) (placeOf (q .program) r n) high,
+          le-ltb (stepsBefore (q .program) r n) (appliedOf x r) low,
+          le-ltb (appliedOf x r) (stepsBefore (q .program) r n) high,
         )
 
     pub rows-come : (r : ℕ) → aboutOf (stepCount (q .program)) (relationCount (q .envelope)) (secondOf m) ≡ about.Rows r

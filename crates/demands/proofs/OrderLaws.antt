@@ -18,7 +18,7 @@ use Rattle.contents.specs.declared.envelope.Envelope.{Envelope}
 use Rattle.papers.specs.declared.programs.Program.{Program}
 use Rattle.tables.specs.Shape.{shaped}
 use Rattle.tables.proofs.ShapeLaws.{shaped-shape, words-fit}
-use Rattle.ends.specs.Reducing.{stepCount, placeOf}
+use Rattle.ends.specs.Reducing.{stepCount, stepsBefore}
 use Rattle.ends.specs.Ends.{appliedOf, hasArrived, startOf}
 use Rattle.ends.specs.Messages.{rowMessage, aboutOf}
 use Rattle.station.specs.Making.{makeRowsOf, sentRows}
@@ -37,7 +37,7 @@ use Rattle.demands.proofs.GoingLaws.{rows-go, rows-come}
 use Rattle.station.proofs.CallLaws.{leaves-good}
 use Rattle.demands.proofs.ReadyLaws.{at-own, site-few, assembly-few, Ready, lent-room, step-done}
 use Rattle.paths.specs.Meaning.{Table}
-use Rattle.ends.proofs.ReducingLaws.{place-most}
+use Rattle.ends.proofs.ReducingLaws.{before-most}
 
 -- ---- one relation
 
@@ -160,7 +160,7 @@ module _ (c : Crew) (w : Allowed c) (room : ℕ) (wide : 16400 ≤ room) where
         }
       where
         at-site : (site r : ℕ) → site ≤ 7 → isAt e site r ≡ true → Dec (site ≡ c .papers .program .site)
-            → appliedOf (then .at site .end) r ≡ placeOf p r (stepCount p)
+            → appliedOf (then .at site .end) r ≡ stepsBefore p r (stepCount p)
         at-site site r small here (yes t) =
             ap (λ (i : ℕ). appliedOf (then .at i .end) r) t ∙ ap (λ (x : Held). appliedOf (x .end) r) now-there ∙ now-applied r
             ∙ ready .applied A r (assembly-few c w) (rw t at here)
@@ -225,8 +225,8 @@ module _ (c : Crew) (w : Allowed c) (room : ℕ) (wide : 16400 ≤ room) where
         awaited = λ r h. ap (λ (x : End). hasArrived x r) (opened-end c w A (assembly-few c w)) ∙ none-arrived r;
       }
     where
-      none-before : (r : ℕ) → placeOf p r 0 ≡ 0
-      none-before r = omega (arith, place-most p 0 r)
+      none-before : (r : ℕ) → stepsBefore p r 0 ≡ 0
+      none-before r = omega (arith, before-most p 0 r)
 
   -- one list of events after another
   follows-all : (xs ys : List Event) (s : State) → Follows c s xs → Follows c (afterAll c s xs) ys → Follows c s (xs ++ ys)

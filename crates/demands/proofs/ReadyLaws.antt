@@ -26,7 +26,7 @@ use Rattle.semijoin.specs.Marks.{reducedBy}
 use Rattle.tables.specs.Values.{risingValues}
 use Rattle.tables.proofs.ShapeLaws.{place-relation, shaped-shape}
 use Rattle.tables.proofs.ValueLaws.{no-more-values}
-use Rattle.ends.specs.Reducing.{stepCount, stepOf, placeOf}
+use Rattle.ends.specs.Reducing.{stepCount, stepOf, stepsBefore}
 use Rattle.ends.specs.Ends.{appliedOf, hasArrived}
 use Rattle.ends.specs.Messages.{valueMessage, bodyOf, aboutOf}
 use Rattle.station.specs.Making.{makeValuesOf}
@@ -36,7 +36,7 @@ use Rattle.station.proofs.MadeLaws.{values-sound}
 use Rattle.demands.specs.Link.{Crew, Allowed, State, Possible, withMade, withTaken, lentStore, after}
 use Rattle.demands.specs.Orderly.{sendsStep, bringsStep, IsTaken}
 use Rattle.demands.proofs.TakenLaws.{SoundAt, Sound, received, good-papers, values-by}
-use Rattle.demands.proofs.RunLaws.{place-own, place-other}
+use Rattle.demands.proofs.RunLaws.{before-own, before-other}
 use Rattle.demands.proofs.SoundLaws.{taken-here, taken-there}
 use Rattle.demands.proofs.StartLaws.{sound-next}
 use Rattle.demands.proofs.SaidLaws.{step-legal}
@@ -75,7 +75,7 @@ module _ (c : Crew) (w : Allowed c) where
 
   pub record Ready (n k : ℕ) (s : State) : Type 0 where
     pub sound : Sound c s
-    pub applied : (site r : ℕ) → site ≤ 7 → isAt e site r ≡ true → appliedOf (s .at site .end) r ≡ placeOf p r n
+    pub applied : (site r : ℕ) → site ≤ 7 → isAt e site r ≡ true → appliedOf (s .at site .end) r ≡ stepsBefore p r n
     pub here : (r : ℕ) → r < k → hasArrived (s .at A .end) r ≡ true
     pub awaited : (r : ℕ) → k ≤ r → hasArrived (s .at A .end) r ≡ false
 
@@ -192,20 +192,20 @@ module _ (c : Crew) (w : Allowed c) where
       few-applied : a < length (to .end .applied)
       few-applied = let eight : relationCount e ≤ 8 = omega arith in omega (arith, eight, s-to .eight, left-there)
 
-      now-applied : (r : ℕ) → isAt e receiver r ≡ true → appliedOf (now .end) r ≡ placeOf p r (suc n)
+      now-applied : (r : ℕ) → isAt e receiver r ≡ true → appliedOf (now .end) r ≡ stepsBefore p r (suc n)
       unfolding withApplied appliedTo
       now-applied r here = go (ℕ-discrete r a)
         where
           go : Dec (r ≡ stepOf p n .left .relation)
-              → getD (set (to .end .applied) a (appliedOf (to .end) a + 1)) r 0 ≡ placeOf p r (suc n)
+              → getD (set (to .end .applied) a (appliedOf (to .end) a + 1)) r 0 ≡ stepsBefore p r (suc n)
           go (yes t) =
               rw t
               (getD-set-same (to .end .applied) a (appliedOf (to .end) a + 1) 0 few-applied
-              ∙ omega (arith, ready .applied receiver a (site-few a left-there) (at-own a left-there), place-own p a n few refl))
+              ∙ omega (arith, ready .applied receiver a (site-few a left-there) (at-own a left-there), before-own p a n few refl))
           go (no t) =
               getD-set-other (to .end .applied) a r (appliedOf (to .end) a + 1) 0 t
               ∙ ready .applied receiver r (site-few a left-there) here
-              ∙ sym (place-other p r n few (λ z. t (sym z)))
+              ∙ sym (before-other p r n few (λ z. t (sym z)))
 
       now-arrived : (r : ℕ) → hasArrived (now .end) r ≡ hasArrived (to .end) r
       unfolding withApplied appliedTo
@@ -221,13 +221,13 @@ module _ (c : Crew) (w : Allowed c) where
           }
         where
           at-site : (site r : ℕ) → site ≤ 7 → isAt e site r ≡ true → Dec (site ≡ siteOf e (stepOf p n .left .relation))
-              → appliedOf (then .at site .end) r ≡ placeOf p r (suc n)
+              → appliedOf (then .at site .end) r ≡ stepsBefore p r (suc n)
           at-site site r small here (yes t) =
               let own : isAt e receiver r ≡ true = rw t at here in
               ap (λ (k : ℕ). appliedOf (then .at k .end) r) t ∙ ap (λ (x : Held). appliedOf (x .end) r) now-there ∙ now-applied r own
           at-site site r small here (no t) =
               let other : stepOf p n .left .relation ≡ r → ⊥ = λ z. t (sym (at-one site r here) ∙ ap (siteOf e) (sym z)) in
-              ap (λ (x : Held). appliedOf (x .end) r) (others-there site t) ∙ ready .applied site r small here ∙ sym (place-other p r n few other)
+              ap (λ (x : Held). appliedOf (x .end) r) (others-there site t) ∙ ready .applied site r small here ∙ sym (before-other p r n few other)
 
           not-yet : (r : ℕ) → Dec (c .papers .program .site ≡ siteOf e (stepOf p n .left .relation)) → hasArrived (then .at A .end) r ≡ false
           not-yet r (yes t) =

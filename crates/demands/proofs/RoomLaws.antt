@@ -33,7 +33,7 @@ use Rattle.station.proofs.CallLaws.{leaves-good}
 use Rattle.ends.proofs.MessageLaws.{about-rows, rows-below, row-run, row-front, row-counted}
 use Rattle.station.proofs.RoomLaws.{mostOf, message-most, heldBy, held-within, room-suffices}
 use Rattle.answerer.proofs.DeliveredLaws.{sentOf}
-use Rattle.demands.specs.Link.{Crew, Allowed, State, Bears, openedAt, start, Event, Possible, withTaken, lentStore, after}
+use Rattle.demands.specs.Link.{Crew, Allowed, State, Bears, siteOpened, start, Event, Possible, withTaken, lentStore, after}
 use Rattle.demands.specs.Link.Event.{makesValues, makesRows, comes}
 use Rattle.demands.specs.DemandThree.{LowerMade, Lower}
 use Rattle.demands.specs.DemandThree.Made.{values, rows}
@@ -92,7 +92,7 @@ module _ (c : Crew) (w : Allowed c) where
   pub room-start : Roomy (start c)
   unfolding startOf
   room-start site small =
-      let none : openedAt c site .end .used ≡ 0 = ap (λ (x : End). x .used) (opened-end c w site small) in
+      let none : siteOpened c site .end .used ≡ 0 = ap (λ (x : End). x .used) (opened-end c w site small) in
       omega (arith, none)
 
   room-change : (made : List (List ℕ)) (site : ℕ) (x : Held) (store m : List ℕ) → SoundAt c made site x → RoomAt x

@@ -23,7 +23,7 @@ use Rattle.tables.specs.Values.{valuesOf}
 use Rattle.semijoin.specs.Run.{stepped, steppedAll}
 use Rattle.semijoin.proofs.PromiseLaws.{promise}
 use Rattle.semijoin.proofs.CallLaws.{call-promise}
-use Rattle.ends.specs.Reducing.{stepCount, stepOf, reduces, reducing, placeOf}
+use Rattle.ends.specs.Reducing.{stepCount, stepOf, reduces, reducing, stepsBefore}
 use Rattle.demands.specs.Link.{Crew}
 use Rattle.demands.specs.DemandThree.{runAfter}
 
@@ -33,64 +33,64 @@ module _ (p : Program) (r : ℕ) where
   abbrev steps : List Step
   steps = stepsOf p
 
-  place-one : (n : ℕ) → n < stepCount p → placeOf p r (suc n) ≡ length (filter (reduces steps r) (below n) ++ filter (reduces steps r) (n ∷ []))
-  unfolding placeOf reducing
-  place-one n h =
+  before-one : (n : ℕ) → n < stepCount p → stepsBefore p r (suc n) ≡ length (filter (reduces steps r) (below n) ++ filter (reduces steps r) (n ∷ []))
+  unfolding stepsBefore reducing
+  before-one n h =
       let s : min (suc n) (length steps) ≡ n + 1 = omega arith in
       ap (λ k. length (filter (reduces steps r) (below k))) s ∙ ap (λ (l : List ℕ). length l) (filter-below (reduces steps r) n)
 
-  place-here : (n : ℕ) → n < stepCount p → placeOf p r n ≡ length (filter (reduces steps r) (below n))
-  unfolding placeOf reducing
-  place-here n h =
+  before-here : (n : ℕ) → n < stepCount p → stepsBefore p r n ≡ length (filter (reduces steps r) (below n))
+  unfolding stepsBefore reducing
+  before-here n h =
       let s : min n (length steps) ≡ n = omega arith in
       ap (λ k. length (filter (reduces steps r) (below k))) s
 
   -- a step of the relation counts, another does not
-  pub place-own : (n : ℕ) → n < stepCount p → stepOf p n .left .relation ≡ r → placeOf p r (suc n) ≡ placeOf p r n + 1
+  pub before-own : (n : ℕ) → n < stepCount p → stepOf p n .left .relation ≡ r → stepsBefore p r (suc n) ≡ stepsBefore p r n + 1
   unfolding reduces stepOf
-  place-own n h t =
+  before-own n h t =
       let one : filter (reduces steps r) (n ∷ []) ≡ n ∷ [] = rw (eq-eqb (stepOf p n .left .relation) r t) in
       omega (
         arith,
-        place-one n h,
+        before-one n h,
         ap (λ (l : List ℕ). length (filter (reduces steps r) (below n) ++ l)) one,
         length-append (filter (reduces steps r) (below n)) (n ∷ []),
-        place-here n h,
+        before-here n h,
       )
 
-  pub place-other : (n : ℕ) → n < stepCount p → (stepOf p n .left .relation ≡ r → ⊥) → placeOf p r (suc n) ≡ placeOf p r n
+  pub before-other : (n : ℕ) → n < stepCount p → (stepOf p n .left .relation ≡ r → ⊥) → stepsBefore p r (suc n) ≡ stepsBefore p r n
   unfolding reduces stepOf
-  place-other n h t =
+  before-other n h t =
       let one : filter (reduces steps r) (n ∷ []) ≡ [] = rw (ne-eqb (stepOf p n .left .relation) r t) in
       let nil : List ℕ = [] in
       omega (
         arith,
-        place-one n h,
+        before-one n h,
         ap (λ (l : List ℕ). length (filter (reduces steps r) (below n) ++ l)) one,
         length-append (filter (reduces steps r) (below n)) nil,
-        place-here n h,
+        before-here n h,
       )
 
-  pub place-past : (n : ℕ) → stepCount p ≤ n → placeOf p r (suc n) ≡ placeOf p r n
-  unfolding placeOf reducing
-  place-past n h =
+  pub before-past : (n : ℕ) → stepCount p ≤ n → stepsBefore p r (suc n) ≡ stepsBefore p r n
+  unfolding stepsBefore reducing
+  before-past n h =
       let s : min (suc n) (length steps) ≡ min n (length steps) = omega arith in
       ap (λ k. length (filter (reduces steps r) (below k))) s
 
-  place-rises : (n : ℕ) → placeOf p r n ≤ placeOf p r (suc n)
-  place-rises n =
-      split (stepCount p) n (λ h. omega (arith, place-past n h)) λ h. go h (ℕ-discrete (stepOf p n .left .relation) r)
+  before-rises : (n : ℕ) → stepsBefore p r n ≤ stepsBefore p r (suc n)
+  before-rises n =
+      split (stepCount p) n (λ h. omega (arith, before-past n h)) λ h. go h (ℕ-discrete (stepOf p n .left .relation) r)
     where
-      go : n < stepCount p → Dec (stepOf p n .left .relation ≡ r) → placeOf p r n ≤ placeOf p r (suc n)
-      go h (yes t) = omega (arith, place-own n h t)
-      go h (no t) = omega (arith, place-other n h t)
+      go : n < stepCount p → Dec (stepOf p n .left .relation ≡ r) → stepsBefore p r n ≤ stepsBefore p r (suc n)
+      go h (yes t) = omega (arith, before-own n h t)
+      go h (no t) = omega (arith, before-other n h t)
 
-  place-more : (n d : ℕ) → placeOf p r n ≤ placeOf p r (n + d)
-  place-more n zero = let s : n + 0 ≡ n = omega arith in rw s (omega arith)
-  place-more n (suc d) = let s : n + suc d ≡ suc (n + d) = omega arith in rw s (omega (arith, place-more n d, place-rises (n + d)))
+  before-more : (n d : ℕ) → stepsBefore p r n ≤ stepsBefore p r (n + d)
+  before-more n zero = let s : n + 0 ≡ n = omega arith in rw s (omega arith)
+  before-more n (suc d) = let s : n + suc d ≡ suc (n + d) = omega arith in rw s (omega (arith, before-more n d, before-rises (n + d)))
 
-  pub place-mono : (n k : ℕ) → n ≤ k → placeOf p r n ≤ placeOf p r k
-  place-mono n k h = let s : n + (k - n) ≡ k = omega arith in rw s at (place-more n (k - n))
+  pub before-mono : (n k : ℕ) → n ≤ k → stepsBefore p r n ≤ stepsBefore p r k
+  before-mono n k h = let s : n + (k - n) ≡ k = omega arith in rw s at (before-more n (k - n))
 
 -- ---- the run
 
@@ -137,28 +137,28 @@ module _ (c : Crew) where
       (take-all (suc n) (stepsOf p) (omega arith) ∙ sym (take-all n (stepsOf p) h))
 
   -- a relation's marks, from one of its steps to the next
-  still : (r n d : ℕ) → placeOf p r (n + d) ≤ placeOf p r n → marksAt e (c .whole) r (runAfter c (n + d)) ≡ marksAt e (c .whole) r (runAfter c n)
+  still : (r n d : ℕ) → stepsBefore p r (n + d) ≤ stepsBefore p r n → marksAt e (c .whole) r (runAfter c (n + d)) ≡ marksAt e (c .whole) r (runAfter c n)
   still r n zero h = let s : n + 0 ≡ n = omega arith in rw s
   still r n (suc d) h =
       let s : n + suc d ≡ suc (n + d) = omega arith in
-      let low : placeOf p r n ≤ placeOf p r (n + d) = place-mono p r n (n + d) (omega arith) in
-      let high : placeOf p r (n + d) ≤ placeOf p r (suc (n + d)) = place-mono p r (n + d) (suc (n + d)) (omega arith) in
-      let whole : placeOf p r (suc (n + d)) ≤ placeOf p r n = rw s at h in
+      let low : stepsBefore p r n ≤ stepsBefore p r (n + d) = before-mono p r n (n + d) (omega arith) in
+      let high : stepsBefore p r (n + d) ≤ stepsBefore p r (suc (n + d)) = before-mono p r (n + d) (suc (n + d)) (omega arith) in
+      let whole : stepsBefore p r (suc (n + d)) ≤ stepsBefore p r n = rw s at h in
       rw s (one (n + d) (omega arith) ∙ still r n d (omega arith))
     where
-      one : (k : ℕ) → placeOf p r (suc k) ≤ placeOf p r k → marksAt e (c .whole) r (runAfter c (suc k)) ≡ marksAt e (c .whole) r (runAfter c k)
+      one : (k : ℕ) → stepsBefore p r (suc k) ≤ stepsBefore p r k → marksAt e (c .whole) r (runAfter c (suc k)) ≡ marksAt e (c .whole) r (runAfter c k)
       one k h =
           split (stepCount p) k (λ l. ap (marksAt e (c .whole) r) (run-past k l)) λ l. go l (ℕ-discrete (stepOf p k .left .relation) r)
         where
           go : k < stepCount p → Dec (stepOf p k .left .relation ≡ r)
               → marksAt e (c .whole) r (runAfter c (suc k)) ≡ marksAt e (c .whole) r (runAfter c k)
-          go l (yes t) = absurd (omega (arith, place-own p r k l t))
+          go l (yes t) = absurd (omega (arith, before-own p r k l t))
           go l (no t) =
               ap (marksAt e (c .whole) r) (run-step k l)
               ∙ promise e .others-stay (c .whole) (valuesOf e (c .whole) (runAfter c k) (stepOf p k .right)) (runAfter c k) (stepOf p k .left) r
               (λ w. t (sym w))
 
-  pub run-still : (r n k : ℕ) → n ≤ k → placeOf p r k ≤ placeOf p r n → marksAt e (c .whole) r (runAfter c k) ≡ marksAt e (c .whole) r (runAfter c n)
+  pub run-still : (r n k : ℕ) → n ≤ k → stepsBefore p r k ≤ stepsBefore p r n → marksAt e (c .whole) r (runAfter c k) ≡ marksAt e (c .whole) r (runAfter c n)
   run-still r n k h few =
       let s : n + (k - n) ≡ k = omega arith in
       rw s at (still r n (k - n) (rw s few))

@@ -20,7 +20,7 @@ use Rattle.contents.specs.Sites.{isAt}
 use Rattle.contents.specs.Kept.{keptColumns}
 use Rattle.semijoin.specs.Marks.{reducedBy}
 use Rattle.semijoin.proofs.PromiseLaws.{promise}
-use Rattle.ends.specs.Reducing.{stepCount, stepOf, placeOf}
+use Rattle.ends.specs.Reducing.{stepCount, stepOf, stepsBefore}
 use Rattle.station.specs.Calls.{leaves}
 use Rattle.ends.specs.Ends.{appliedOf, hasArrived}
 use Rattle.ends.specs.Messages.{frontLength, runOf, secondOf, bodyOf, aboutOf, counted}
@@ -34,7 +34,7 @@ use Rattle.answerer.specs.Stores.{SoundRows}
 use Rattle.answerer.proofs.DeliveredLaws.{one-more}
 use Rattle.demands.specs.Link.{Crew, Allowed, State, Bears, withTaken, lentStore}
 use Rattle.demands.proofs.TakenLaws.{Kept, SoundAt, received}
-use Rattle.demands.proofs.RunLaws.{place-own, place-mono}
+use Rattle.demands.proofs.RunLaws.{before-own, before-mono}
 use Rattle.demands.proofs.AppendedLaws.{held-map}
 
 -- ---- what a message that comes does to a site
@@ -44,7 +44,7 @@ pub data Change (c : Crew) (site : ℕ) (x : Held) (store m : List ℕ) (h : Hel
   reduces : (n : ℕ) → aboutOf (stepCount (c .papers .program)) (relationCount (c .papers .envelope)) (secondOf m) ≡ about.Step n
       → Bears (c .run) m → isAt (c .papers .envelope) site (stepOf (c .papers .program) n .left .relation) ≡ true
       → appliedOf (x .end) (stepOf (c .papers .program) n .left .relation)
-      ≡ placeOf (c .papers .program) (stepOf (c .papers .program) n .left .relation) n
+      ≡ stepsBefore (c .papers .program) (stepOf (c .papers .program) n .left .relation) n
       → h ≡ record {
         end = withApplied (x .end) (stepOf (c .papers .program) n .left .relation);
         marks = reducedBy (c .papers .envelope) (c .tables site) (bodyOf m) (stepOf (c .papers .program) n .left) (x .marks);
@@ -186,7 +186,7 @@ module _ (c : Crew) (made : List (List ℕ)) (site : ℕ) (x : Held) (s : SoundA
 
       one : (k : ℕ) → k < relationCount (c .papers .envelope) → Dec (k ≡ stepOf (c .papers .program) n .left .relation)
           → getD (set (x .end .applied) (stepOf (c .papers .program) n .left .relation) (appliedOf (x .end) (stepOf (c .papers .program) n .left .relation) + 1)) k 0
-          ≤ placeOf (c .papers .program) k (stepCount (c .papers .program))
+          ≤ stepsBefore (c .papers .program) k (stepCount (c .papers .program))
       one k h (yes t) =
           let q = stepOf (c .papers .program) n .left .relation in
           let small : q < length (x .end .applied) = omega (arith, s .eight, h, t) in
@@ -195,8 +195,8 @@ module _ (c : Crew) (made : List (List ℕ)) (site : ℕ) (x : Held) (s : SoundA
             arith,
             getD-set-same (x .end .applied) q (appliedOf (x .end) q + 1) 0 small,
             next,
-            place-own (c .papers .program) q n last refl,
-            place-mono (c .papers .program) q (suc n) (stepCount (c .papers .program)) last,
+            before-own (c .papers .program) q n last refl,
+            before-mono (c .papers .program) q (suc n) (stepCount (c .papers .program)) last,
           ))
       one k h (no t) =
           rw (getD-set-other (x .end .applied) (stepOf (c .papers .program) n .left .relation) k (appliedOf (x .end) (stepOf (c .papers .program) n .left .relation) + 1) 0 t)

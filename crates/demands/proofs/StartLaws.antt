@@ -20,7 +20,7 @@ use Rattle.ends.specs.Ends.{Marked, startOf, noEnd}
 use Rattle.station.specs.Opening.{openWith, openOf}
 use Rattle.station.specs.Receiving.{receiveOf}
 use Rattle.station.proofs.CallLaws.{leaves-good}
-use Rattle.demands.specs.Link.{Crew, Allowed, State, Bears, openingAt, openedAt, Event, Possible, withMade, lentStore, after}
+use Rattle.demands.specs.Link.{Crew, Allowed, State, Bears, openingAt, siteOpened, Event, Possible, withMade, lentStore, after}
 use Rattle.demands.specs.Link.Event.{makesValues, makesRows, comes}
 use Rattle.demands.proofs.TakenLaws.{SoundAt, Sound}
 use Rattle.answerer.specs.Stores.OneOfEach.{none}
@@ -60,24 +60,24 @@ module _ (c : Crew) (w : Allowed c) (site : ℕ) (small : site ≤ 7) where
         le-ltb (length (c .lent site)) (rowCount (c .papers .envelope) (c .tables site)) (w .marks site small),
       )
 
-  pub opened-end : openedAt c site .end ≡ startOf (c .papers) site (c .run)
-  unfolding openedAt
+  pub opened-end : siteOpened c site .end ≡ startOf (c .papers) site (c .run)
+  unfolding siteOpened
   opened-end =
       ap (λ (o : Outcome Marked). leaves (λ (x : Marked). x .end) noEnd o) opening-good ∙ leaves-good (λ (x : Marked). x .end) noEnd opened 0
 
-  pub opened-marks : openedAt c site .marks ≡ openedIn (c .papers .envelope) (c .tables site) (isAt (c .papers .envelope) site) (c .lent site)
-  unfolding openedAt
+  pub opened-marks : siteOpened c site .marks ≡ openedIn (c .papers .envelope) (c .tables site) (isAt (c .papers .envelope) site) (c .lent site)
+  unfolding siteOpened
   opened-marks =
       ap (λ (o : Outcome Marked). leaves (λ (x : Marked). x .marks) (c .lent site) o) opening-good
       ∙ leaves-good (λ (x : Marked). x .marks) (c .lent site) opened 0
 
-  pub opened-is : openedAt c site
+  pub opened-is : siteOpened c site
       ≡ record {
         end = startOf (c .papers) site (c .run);
         marks = openedIn (c .papers .envelope) (c .tables site) (isAt (c .papers .envelope) site) (c .lent site);
         store = [];
       }
-  unfolding openedAt leaves
+  unfolding siteOpened leaves
   opened-is =
       ap
       (λ (o : Outcome Marked).
@@ -88,7 +88,7 @@ module _ (c : Crew) (w : Allowed c) (site : ℕ) (small : site ≤ 7) where
       })
       opening-good
 
-  pub sound-start : SoundAt c [] site (openedAt c site)
+  pub sound-start : SoundAt c [] site (siteOpened c site)
   unfolding startOf
   sound-start =
       rw opened-is

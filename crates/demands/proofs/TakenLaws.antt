@@ -16,8 +16,8 @@ use Rattle.papers.specs.declared.checks.Papers.{Papers}
 use Rattle.papers.proofs.CheckLaws.{papers-sound}
 use Rattle.tables.specs.Offsets.{rowCount}
 use Rattle.tables.specs.Shape.{shaped}
-use Rattle.ends.specs.Reducing.{stepCount, placeOf}
-use Rattle.ends.specs.Ends.{papersIn, soundEnd, Sound as SoundEnd}
+use Rattle.ends.specs.Reducing.{stepCount, stepsBefore}
+use Rattle.ends.specs.Ends.{papersOfEnd, soundEnd, Sound as SoundEnd}
 use Rattle.ends.proofs.SoundLaws.{sound-taken, sound-call}
 use Rattle.station.specs.Making.{valuesWith, makeValuesOf, rowsWith, makeRowsOf}
 use Rattle.station.specs.Receiving.{Held, receiveWith, receiveOf}
@@ -38,7 +38,7 @@ pub record SoundAt (c : Crew) (made : List (List ℕ)) (site : ℕ) (h : Held) :
   pub run : h .end .run ≡ c .run
   pub eight : length (h .end .applied) ≡ 8
   pub few : (r : ℕ) → r < relationCount (c .papers .envelope)
-      → getD (h .end .applied) r 0 ≤ placeOf (c .papers .program) r (stepCount (c .papers .program))
+      → getD (h .end .applied) r 0 ≤ stepsBefore (c .papers .program) r (stepCount (c .papers .program))
   pub arrivals : length (h .end .arrived) ≡ 8
   pub marks : length (h .marks) ≡ length (c .lent site)
   pub used : h .end .used ≤ length (h .store)
@@ -56,7 +56,7 @@ module _ (c : Crew) (w : Allowed c) (made : List (List ℕ)) (site : ℕ) (small
   pub room-at : rowCount (c .papers .envelope) (c .tables site) ≤ length (x .marks)
   room-at = omega (arith, w .marks site small, s .marks)
 
-  same : papersIn (x .end) ≡ c .papers
+  same : papersOfEnd (x .end) ≡ c .papers
   same = ap₂ (λ (f : Envelope) (g : Program). record { envelope = f; program = g }) (s .envelope) (s .program)
 
   sound : SoundEnd (x .end) (length (x .store))

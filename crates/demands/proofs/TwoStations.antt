@@ -24,7 +24,7 @@ use Rattle.papers.specs.Checks.{papersOf}
 use Rattle.papers.specs.declared.programs.Program.{Program}
 use Rattle.semijoin.proofs.Figures.{onNumber, couponWeigh}
 use Rattle.answerer.specs.Answer.{fitted as answerFits}
-use Rattle.demands.specs.Link.{Crew, Allowed, State, start, afterAll, lentStore, openedAt as endAt, withMade, withTaken, after}
+use Rattle.demands.specs.Link.{Crew, Allowed, State, start, afterAll, lentStore, siteOpened, withMade, withTaken, after}
 use Rattle.demands.specs.Orderly.{inTurn, inOrder, Happens}
 use Rattle.demands.specs.DemandThree.{answering}
 use Rattle.demands.proofs.OrderLaws.{in-order}
@@ -56,12 +56,12 @@ use Rattle.semijoin.specs.Local.{passesBy, passes, openingMark, openedAt, opene
 use Rattle.semijoin.specs.Marks.{sieved, sievedOver, reducedBy}
 use Rattle.ends.specs.Ends.{overAt, overApplied, soundEnd, usable, startOf}
 use Rattle.ends.specs.Messages.{valueMessage, rowMessage, aboutOf, counted, soundValues, rowsOf}
-use Rattle.ends.specs.Reducing.{stepOf, reduces, reducing, placeOf, isMissing, firstMissing, missingIn}
+use Rattle.ends.specs.Reducing.{stepOf, reduces, reducing, stepsBefore, isMissing, firstMissing, missingIn}
 use Rattle.station.specs.Calls.{leaves}
 use Rattle.station.specs.Making.{fitted, valuesWith, makeValuesOf, sentRows, rowsWith, makeRowsOf}
 use Rattle.station.specs.Opening.{openWith, openOf}
 use Rattle.station.specs.Receiving.{appliedTo, withApplied, withArrived, valuesTaken, rowsTaken, taken as taken-of, receiveWith, receiveOf}
-use Rattle.answerer.specs.Assembly.{firstAwaited, answerFrom, assembled, assembledWith, assembledOutcome}
+use Rattle.answerer.specs.Assembly.{firstAwaited, answerOver, assembled, assembledWith, assembledOutcome}
 use Rattle.answerer.specs.Sources.{wordFrom, rowFrom, tableFrom, tablesBehind}
 use Rattle.answerer.specs.Stores.{standsIn, layStored, metBy, messageAt, dueIn, laysFrom, sourceHeld, sourceOf}
 
@@ -101,7 +101,7 @@ pub computed : (finish .made
     × (finish .at 1 .marks ≡ 1 ∷ 1 ∷ 0 ∷ 9 ∷ []) × (finish .at 2 .marks ≡ 1 ∷ 1 ∷ 1 ∷ 0 ∷ [])
     × (assembledOutcome (answering crew finish .end) (lentStore (answering crew finish) []) (replicate 6 0)
     ≡ good (11 ∷ 5 ∷ 12 ∷ 7 ∷ 12 ∷ 7 ∷ []) 0)
-unfolding littleEnd bytesOf padded numbersFrom numbered insert rising firstFrom numberAt numberThat marked markOf versionAt headOf domainOf selectionAt joined joinAt clauseAt kindBytes samePlace placeAt placeBytes columnsOf columnAt columnBytes columnsThen relationAt relationBytes names kept keptColumns firstBare sizesOf relationsOf clausesOf targetsOf columnsIn withVersion withSizes withRelations withClauses withTargets siteOf isAt holds filled listInto ended targetsThen clausesThen relationsThen sizesThen envelopeFrom envelopeBytes checkEnvelope constantsOf selectionsBy equalitiesBy rowsIn tablesIn tablesOf meetsAll answerOn answerRows edges onPath isPlace legalBy stepBytes papersOf stepsOf stepAt endedProgram stepsThen programBy readProgram programBytes checkProgram countIn wordsBefore rowsBefore firstWord rowsOver marksOver rowsAt marksAt isRising keptOf keptRows shaped valuesOver valuesOf risingValues passesBy passes openingMark openedAt opened openedIn sieved sievedOver reducedBy overAt overApplied soundEnd usable startOf valueMessage rowMessage aboutOf counted soundValues rowsOf stepOf reduces reducing placeOf isMissing firstMissing missingIn leaves fitted valuesWith makeValuesOf sentRows rowsWith makeRowsOf openWith openOf appliedTo withApplied withArrived valuesTaken rowsTaken taken-of receiveWith receiveOf firstAwaited answerFrom assembled assembledWith assembledOutcome wordFrom rowFrom tableFrom tablesBehind standsIn layStored metBy messageAt dueIn laysFrom sourceHeld sourceOf answerFits endAt withMade withTaken after inTurn inOrder
+unfolding littleEnd bytesOf padded numbersFrom numbered insert rising firstFrom numberAt numberThat marked markOf versionAt headOf domainOf selectionAt joined joinAt clauseAt kindBytes samePlace placeAt placeBytes columnsOf columnAt columnBytes columnsThen relationAt relationBytes names kept keptColumns firstBare sizesOf relationsOf clausesOf targetsOf columnsIn withVersion withSizes withRelations withClauses withTargets siteOf isAt holds filled listInto ended targetsThen clausesThen relationsThen sizesThen envelopeFrom envelopeBytes checkEnvelope constantsOf selectionsBy equalitiesBy rowsIn tablesIn tablesOf meetsAll answerOn answerRows edges onPath isPlace legalBy stepBytes papersOf stepsOf stepAt endedProgram stepsThen programBy readProgram programBytes checkProgram countIn wordsBefore rowsBefore firstWord rowsOver marksOver rowsAt marksAt isRising keptOf keptRows shaped valuesOver valuesOf risingValues passesBy passes openingMark openedAt opened openedIn sieved sievedOver reducedBy overAt overApplied soundEnd usable startOf valueMessage rowMessage aboutOf counted soundValues rowsOf stepOf reduces reducing stepsBefore isMissing firstMissing missingIn leaves fitted valuesWith makeValuesOf sentRows rowsWith makeRowsOf openWith openOf appliedTo withApplied withArrived valuesTaken rowsTaken taken-of receiveWith receiveOf firstAwaited answerOver assembled assembledWith assembledOutcome wordFrom rowFrom tableFrom tablesBehind standsIn layStored metBy messageAt dueIn laysFrom sourceHeld sourceOf answerFits siteOpened withMade withTaken after inTurn inOrder
 computed = (refl, refl, refl, refl)
 
 -- ---- the crew is one that demand 3 speaks of

@@ -97,8 +97,8 @@ step-of-one κs a y z u v p q = (same p q, refl)
 pub step-count-one : Determined reducing.step_count.Kinds.ps reducing.step_count.Kinds.r reducing.step_count.Reads.Learnt
 step-count-one κs a y z u v p q = (same p q, refl)
 
-pub place-of-one : Determined reducing.place_of.Kinds.ps reducing.place_of.Kinds.r reducing.place_of.Reads.Learnt
-place-of-one κs a y z u v p q = (same p q, refl)
+pub steps-before-one : Determined reducing.steps_before.Kinds.ps reducing.steps_before.Kinds.r reducing.steps_before.Reads.Learnt
+steps-before-one κs a y z u v p q = (same p q, refl)
 
 pub missing-of-one : Determined reducing.missing_of.Kinds.ps reducing.missing_of.Kinds.r reducing.missing_of.Reads.Learnt
 missing-of-one κs a y z u v p q = (same p q, refl)

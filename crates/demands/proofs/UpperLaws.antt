@@ -25,7 +25,7 @@ use Rattle.semijoin.specs.Promise.{FewerRows, FewerValues}
 use Rattle.tables.proofs.RowLaws.{kept-inside, same-counts}
 use Rattle.tables.proofs.ValueLaws.{same-values}
 use Rattle.semijoin.proofs.PromiseLaws.{promise}
-use Rattle.ends.specs.Reducing.{stepCount, stepOf, placeOf}
+use Rattle.ends.specs.Reducing.{stepCount, stepOf, stepsBefore}
 use Rattle.ends.specs.Ends.{appliedOf, startOf}
 use Rattle.ends.specs.Messages.{secondOf, bodyOf, aboutOf}
 use Rattle.station.specs.Making.{sentRows, makeValuesOf, makeRowsOf}
@@ -40,7 +40,7 @@ use Rattle.demands.specs.DemandThree.{runAfter, UpperMade, Upper}
 use Rattle.demands.specs.DemandThree.Made.{values, rows}
 use Rattle.demands.proofs.TakenLaws.{SoundAt, Sound, values-by, rows-by}
 use Rattle.station.proofs.MakingLaws.{with-values, with-rows}
-use Rattle.demands.proofs.RunLaws.{place-own, place-mono, run-none, run-step, run-still}
+use Rattle.demands.proofs.RunLaws.{before-own, before-mono, run-none, run-step, run-still}
 use Rattle.demands.proofs.SoundLaws.{Change, changes, taken-at, taken-made}
 use Rattle.demands.proofs.SoundLaws.Change.{refused, reduces, arrives}
 use Rattle.demands.proofs.StartLaws.{opened-end, opened-marks, no-steps, made-cases, own-made}
@@ -56,11 +56,11 @@ module _ (c : Crew) (w : Allowed c) where
   -- of one site, for an end that has applied so many steps of each relation
   abbrev UpperAt : ℕ → Held → Type 0
   UpperAt site h =
-      (r n : ℕ) → isAt e site r ≡ true → placeOf p r n ≤ appliedOf (h .end) r
+      (r n : ℕ) → isAt e site r ≡ true → stepsBefore p r n ≤ appliedOf (h .end) r
       → FewerRows e r (c .tables site) (h .marks) (c .whole) (runAfter c n)
 
   -- the run keeps the same rows of a relation where none of its steps lies between
-  still-kept : (r n k i : ℕ) → n ≤ k → placeOf p r k ≤ placeOf p r n → keptAt e (c .whole) (runAfter c n) r i ≡ true
+  still-kept : (r n k i : ℕ) → n ≤ k → stepsBefore p r k ≤ stepsBefore p r n → keptAt e (c .whole) (runAfter c n) r i ≡ true
       → keptAt e (c .whole) (runAfter c k) r i ≡ true
   still-kept r n k i h few t = ap (λ (l : List ℕ). isKept (getD l i 0)) (run-still c r n k h few) ∙ t
 
@@ -84,7 +84,7 @@ module _ (c : Crew) (w : Allowed c) where
   upper-start =
       record {
         kept = λ site r n small here few i t.
-            let none : placeOf p r n ≤ placeOf p r 0 =
+            let none : stepsBefore p r n ≤ stepsBefore p r 0 =
             omega (arith, few, ap (λ (x : End). appliedOf x r) (opened-end c w site small), no-steps r) in
             still-kept r 0 n i (omega arith) none (opened-fewer site r small here i (rw (opened-marks c w site small) at t));
         made = λ m there. elim there [ ];
@@ -124,7 +124,7 @@ module _ (c : Crew) (w : Allowed c) where
   module _ (site : ℕ) (x : Held) (up : UpperAt site x) (m : List ℕ) (n : ℕ) (few : n < stepCount p)
       (fewer : FewerValues (bodyOf m) (valuesOf e (c .whole) (runAfter c n) (stepOf p n .right)))
       (here : isAt e site (stepOf p n .left .relation) ≡ true)
-      (next : appliedOf (x .end) (stepOf p n .left .relation) ≡ placeOf p (stepOf p n .left .relation) n) where
+      (next : appliedOf (x .end) (stepOf p n .left .relation) ≡ stepsBefore p (stepOf p n .left .relation) n) where
     abbrev q : ℕ
     q = stepOf p n .left .relation
 
@@ -132,17 +132,17 @@ module _ (c : Crew) (w : Allowed c) where
     after-step = reducedBy e (c .tables site) (bodyOf m) (stepOf p n .left) (x .marks)
 
     -- the relation of the step, against the run before it and behind it
-    reduced : (k : ℕ) → placeOf p q k ≤ appliedOf (x .end) q + 1 → FewerRows e q (c .tables site) after-step (c .whole) (runAfter c k)
+    reduced : (k : ℕ) → stepsBefore p q k ≤ appliedOf (x .end) q + 1 → FewerRows e q (c .tables site) after-step (c .whole) (runAfter c k)
     reduced k h i t = split (suc n) k behind before
       where
         before : k < suc n → keptAt e (c .whole) (runAfter c k) q i ≡ true
         before l =
-            up q k here (omega (arith, next, place-mono p q k n (omega arith))) i
+            up q k here (omega (arith, next, before-mono p q k n (omega arith))) i
             (promise e .adds-none (c .tables site) (bodyOf m) (x .marks) (stepOf p n .left) q i t)
 
         behind : suc n ≤ k → keptAt e (c .whole) (runAfter c k) q i ≡ true
         behind l =
-            still-kept q (suc n) k i l (omega (arith, h, next, place-own p q n few refl))
+            still-kept q (suc n) k i l (omega (arith, h, next, before-own p q n few refl))
             (rw (run-step c n few)
             (promise e .fewer .0 (c .tables site) (x .marks) (c .whole) (runAfter c n) (bodyOf m)
             (valuesOf e (c .whole) (runAfter c n) (stepOf p n .right)) (stepOf p n .left) (w .parts site q here)
@@ -150,12 +150,12 @@ module _ (c : Crew) (w : Allowed c) where
 
     -- and every relation
     reduced-all : (applied : List ℕ) → q < length (x .end .applied) → applied ≡ set (x .end .applied) q (appliedOf (x .end) q + 1) → (r k : ℕ)
-        → isAt e site r ≡ true → placeOf p r k ≤ getD applied r 0 → FewerRows e r (c .tables site) after-step (c .whole) (runAfter c k)
+        → isAt e site r ≡ true → stepsBefore p r k ≤ getD applied r 0 → FewerRows e r (c .tables site) after-step (c .whole) (runAfter c k)
     reduced-all applied small is r k there h = go (ℕ-discrete r q)
       where
         go : Dec (r ≡ stepOf p n .left .relation) → FewerRows e r (c .tables site) after-step (c .whole) (runAfter c k)
         go (yes t) =
-            let many : placeOf p q k ≤ appliedOf (x .end) q + 1 =
+            let many : stepsBefore p q k ≤ appliedOf (x .end) q + 1 =
             omega (
               arith,
               rw t at h,
@@ -164,7 +164,7 @@ module _ (c : Crew) (w : Allowed c) where
             ) in
             rw t (reduced k many)
         go (no t) = λ i kept.
-            let many : placeOf p r k ≤ appliedOf (x .end) r =
+            let many : stepsBefore p r k ≤ appliedOf (x .end) r =
             omega (
               arith,
               h,

@@ -2,7 +2,7 @@
 -- tables, once every table's row message has been delivered to it, and until then it says which table is missing. No row
 -- arrives that the program, run in order in one place, would have removed." What is promised of a state that a crew comes to.
 use Rattle.demands.specs.Words.{ℕ, _+_, _≤_, _<_, _≡_, true, false, List, List·Memᴰ, length, take, replicate, good, bad, relationCount, isAt, Envelope, answerWords, stepsOf, Program}
-use Rattle.demands.specs.Words.{rowCount, valuesOf, openedIn, steppedAll, runMarks, SameRows, FewerRows, FewerValues, Covers, Holds, stepCount, stepOf, placeOf, appliedOf, hasArrived}
+use Rattle.demands.specs.Words.{rowCount, valuesOf, openedIn, steppedAll, runMarks, SameRows, FewerRows, FewerValues, Covers, Holds, stepCount, stepOf, stepsBefore, appliedOf, hasArrived}
 use Rattle.demands.specs.Words.{valueMessage, rowMessage, secondOf, sentRows, Held, SoundRows, OneOfEach, assembledOutcome}
 use Rattle.demands.specs.Link.{Crew, Allowed, State, start, Event, Possible, lentStore, after, afterAll, Follows}
 use Rattle.demands.specs.Link.Event.{comes}
@@ -42,7 +42,7 @@ module _ (c : Crew) where
       (λ r words marks. FewerRows e r words marks (c .whole) (runAfter (stepCount p)))
 
   pub record Upper (s : State) : Type 0 where
-    pub kept : (site r n : ℕ) → site ≤ 7 → isAt e site r ≡ true → placeOf p r n ≤ appliedOf (s .at site .end) r
+    pub kept : (site r n : ℕ) → site ≤ 7 → isAt e site r ≡ true → stepsBefore p r n ≤ appliedOf (s .at site .end) r
         → FewerRows e r (c .tables site) (s .at site .marks) (c .whole) (runAfter n)
     pub made : (m : List ℕ) → List·Memᴰ m (s .made) → UpperMade m
 

@@ -36,12 +36,12 @@ pub record State : Type 0 where
 abbrev pub openingAt : Crew → ℕ → Outcome Marked
 openingAt c site = openOf (c .envelope) (c .program) site (c .run) (c .tables site) (c .lent site)
 
-unfoldable pub openedAt : Crew → ℕ → Held
-openedAt c site =
+unfoldable pub siteOpened : Crew → ℕ → Held
+siteOpened c site =
     let o = openingAt c site in record { end = leaves (λ (x : Marked). x .end) noEnd o; marks = openedMarks (c .lent site) o; store = [] }
 
 abbrev pub start : Crew → State
-start c = record { at = openedAt c; made = [] }
+start c = record { at = siteOpened c; made = [] }
 
 -- ---- what can happen
 

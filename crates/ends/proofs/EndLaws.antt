@@ -32,29 +32,29 @@ use Rattle.papers.proofs.CheckLaws.{papers-taken, papers-refused, papers-sound}
 use Rattle.paths.proofs.StepLaws.{legal-step}
 use Rattle.tables.specs.Shape.{marksTests}
 use Rattle.tables.proofs.JudgedLaws.{marks-pass}
-use Rattle.ends.specs.Reducing.{stepCount, stepOf, reduces, reducing, placeOf}
+use Rattle.ends.specs.Reducing.{stepCount, stepOf, reduces, reducing, stepsBefore}
 use Rattle.ends.specs.Ends.{overAt, overApplied, soundEnd, usable, Usable}
 use Rattle.ends.specs.declared.ends.End.{End}
 
 -- ---- the counts of applied steps
 
 -- the steps before a program's count are all its steps
-pub place-all : (p : Program) (r : ℕ) → placeOf p r (p .count) ≡ placeOf p r (stepCount p)
-unfolding placeOf reducing stepsOf
-place-all p r =
+pub before-all : (p : Program) (r : ℕ) → stepsBefore p r (p .count) ≡ stepsBefore p r (stepCount p)
+unfolding stepsBefore reducing stepsOf
+before-all p r =
     let s : min (p .count) (length (stepsOf p)) ≡ min (length (stepsOf p)) (length (stepsOf p)) =
     omega (arith, length-take (p .count) (p .steps)) in
     ap (λ k. length (filter (reduces (stepsOf p) r) (below k))) s
 
 module _ (p : Program) (applied : List ℕ) (end i : ℕ) (l : Looking someFrom (overAt p applied) end i) where
-  module _ (h : i < end) (k : ℕ) (e : k ≡ placeOf p i (p .count)) where
+  module _ (h : i < end) (k : ℕ) (e : k ≡ stepsBefore p i (p .count)) where
     over : k < getD applied i 0 → overAt p applied i ≡ true
     unfolding overAt
-    over t = lt-ltb (placeOf p i (stepCount p)) (getD applied i 0) (omega (arith, place-all p i))
+    over t = lt-ltb (stepsBefore p i (stepCount p)) (getD applied i 0) (omega (arith, before-all p i))
 
     pub over-passed : getD applied i 0 ≤ k → Looking someFrom (overAt p applied) end (i + 1)
     unfolding overAt
-    over-passed t = some-more (overAt p applied) end i l h (le-ltb (placeOf p i (stepCount p)) (getD applied i 0) (omega (arith, place-all p i)))
+    over-passed t = some-more (overAt p applied) end i l h (le-ltb (stepsBefore p i (stepCount p)) (getD applied i 0) (omega (arith, before-all p i)))
 
     pub over-found : (relations : ℕ) → end ≡ min 8 relations → k < getD applied i 0 → true ≡ overApplied p (min 8 relations) applied
     unfolding overApplied

@@ -19,7 +19,7 @@ use Rattle.paths.specs.Steps.{step}
 use Rattle.papers.specs.Programs.{noStep, stepsOf}
 use Rattle.paths.specs.declared.steps.Step.{Step}
 use Rattle.papers.specs.declared.programs.Program.{Program}
-use Rattle.ends.specs.Reducing.{stepCount, stepOf, reduces, reducing, placeOf, isMissing, firstMissing, missingIn, missingOf}
+use Rattle.ends.specs.Reducing.{stepCount, stepOf, reduces, reducing, stepsBefore, isMissing, firstMissing, missingIn, missingOf}
 use Rattle.ends.specs.declared.reducing.Missing.{Missing}
 use Rattle.ends.specs.declared.reducing.Missing.the-variants.{First, None}
 
@@ -51,9 +51,9 @@ module _ (p : Program) (n : ℕ) where
   step-of x e = e
 
   -- no more steps of a relation before n than n
-  pub place-most : (r : ℕ) → placeOf p r n ≤ n
-  unfolding placeOf reducing
-  place-most r =
+  pub before-most : (r : ℕ) → stepsBefore p r n ≤ n
+  unfolding stepsBefore reducing
+  before-most r =
       omega (
         arith,
         filter-length (reduces (stepsOf p) r) (below (min n (length (stepsOf p)))),
@@ -64,7 +64,7 @@ module _ (p : Program) (r applied n : ℕ) where
   -- what an answer says
   module _ (x : Missing) (e : x ≡ missingOf p r applied n) where
     pub missing-first : (k : ℕ) → x ≡ First k → (isMissing p r applied n ≡ true) × (firstMissing p r applied n ≡ k)
-    unfolding missingIn isMissing firstMissing placeOf
+    unfolding missingIn isMissing firstMissing stepsBefore
     missing-first k f = go (ltb applied (length (reducing (stepsOf p) r n))) (sym f ∙ e)
       where
         go : (b : Bool) → First k ≡ pick b (First (getD (reducing (stepsOf p) r n) applied 0)) None
@@ -73,7 +73,7 @@ module _ (p : Program) (r applied n : ℕ) where
         go false h = let z : _≡_ {A = ℕ} 0 1 = cc in absurd (never z)
 
     pub missing-not : x ≡ None → isMissing p r applied n ≡ false
-    unfolding missingIn isMissing placeOf
+    unfolding missingIn isMissing stepsBefore
     missing-not f = go (ltb applied (length (reducing (stepsOf p) r n))) (sym f ∙ e)
       where
         go : (b : Bool) → None ≡ pick b (First (getD (reducing (stepsOf p) r n) applied 0)) None → b ≡ false
@@ -105,8 +105,8 @@ module _ (p : Program) (r n : ℕ) (inside : n < stepCount p) (own : stepOf p n 
   lower m = below-from n (filter-from (reduces (stepsOf p) r) (below n) (rw (up-to n (omega arith)) at m) .0)
 
   module _ (applied : ℕ) where
-    pub next-itself : applied ≡ placeOf p r n → missingOf p r applied (n + 1) ≡ First n
-    unfolding missingIn placeOf
+    pub next-itself : applied ≡ stepsBefore p r n → missingOf p r applied (n + 1) ≡ First n
+    unfolding missingIn stepsBefore
     next-itself e =
         rw (
           behind,
@@ -114,8 +114,8 @@ module _ (p : Program) (r n : ℕ) (inside : n < stepCount p) (own : stepOf p n 
           getD-at earlier n [] 0 applied (sym e),
         )
 
-    pub next-earlier : applied < placeOf p r n → (k : ℕ) × (k < n) × (missingOf p r applied (n + 1) ≡ First k)
-    unfolding missingIn placeOf
+    pub next-earlier : applied < stepsBefore p r n → (k : ℕ) × (k < n) × (missingOf p r applied (n + 1) ≡ First k)
+    unfolding missingIn stepsBefore
     next-earlier h = (
       getD earlier applied 0,
       lower (getD-mem earlier applied 0 h),
@@ -126,6 +126,6 @@ module _ (p : Program) (r n : ℕ) (inside : n < stepCount p) (own : stepOf p n 
       ),
     )
 
-    pub next-none : placeOf p r n < applied → missingOf p r applied (n + 1) ≡ None
-    unfolding missingIn placeOf
+    pub next-none : stepsBefore p r n < applied → missingOf p r applied (n + 1) ≡ None
+    unfolding missingIn stepsBefore
     next-none h = rw (behind, le-ltb applied (length (earlier ++ (n ∷ []))) (omega (arith, h, longer)))

@@ -15,7 +15,7 @@ use Rattle.ground.proofs.NumbersLaws.{below-length}
 use Rattle.papers.specs.Programs.{noStep, stepsOf}
 use Rattle.paths.specs.declared.steps.Step.{Step}
 use Rattle.papers.specs.declared.programs.Program.{Program}
-use Rattle.ends.specs.Reducing.{reduces, reducing, placeOf, missingIn, missingOf}
+use Rattle.ends.specs.Reducing.{reduces, reducing, stepsBefore, missingIn, missingOf}
 use Rattle.ends.specs.Searching.{seenOf, soughtFrom, Found}
 use Rattle.ends.specs.declared.reducing.Missing.the-variants.{First, None}
 use Rattle.ends.specs.declared.reducing.Search.{Search}
@@ -161,7 +161,7 @@ module _ (steps : List Step) (count r skip end : ℕ) (within : end ≤ count) (
 module _ (p : Program) (r skip n : ℕ) where
   pub next-found : (end : ℕ) → end ≡ min n (min 156 (p .count)) → length (p .steps) ≡ 156 → (c : Search)
       → c ≡ soughtFrom (p .steps) 0 record { relation = r; skip = skip; end = end; found = false; at = 0 } → Found p r skip n c
-  unfolding placeOf stepsOf
+  unfolding stepsBefore stepsOf
   next-found end e long c is =
       let all = all-of (p .steps) (p .count) r n end e long in
       let said : Says (reduces (take (p .count) (p .steps)) r) end skip c =
@@ -177,20 +177,20 @@ module _ (p : Program) (r skip n : ℕ) where
 
   module _ (c : Search) (o : Found p r skip n c) where
     pub missing-found : c .found ≡ true → First (c .at) ≡ missingOf p r skip n
-    unfolding missingIn placeOf
+    unfolding missingIn stepsBefore
     missing-found h = let (less, is) = o .one h in sym (rw (lt-ltb _ _ less, is))
 
     pub missing-none : c .found ≡ false → None ≡ missingOf p r skip n
-    unfolding missingIn placeOf
+    unfolding missingIn stepsBefore
     missing-none h =
         let all : length (reducing (stepsOf p) r n) + c .skip ≡ skip = o .none h in
         let k : length (reducing (stepsOf p) r n) ≤ skip = omega (arith, all) in
         sym (rw (le-ltb _ _ k))
 
 -- of 156 steps, those that were passed over are all there are
-pub place-passed : (p : Program) (r n : ℕ) (c : Search) → Found p r 156 n c → placeOf p r n + c .skip ≡ 156
-place-passed p r n c o = by-found (c .found) refl
+pub before-passed : (p : Program) (r n : ℕ) (c : Search) → Found p r 156 n c → stepsBefore p r n + c .skip ≡ 156
+before-passed p r n c o = by-found (c .found) refl
   where
-    by-found : (b : Bool) → c .found ≡ b → placeOf p r n + c .skip ≡ 156
+    by-found : (b : Bool) → c .found ≡ b → stepsBefore p r n + c .skip ≡ 156
     by-found true e = absurd (omega (arith, o .one e .0, o .few))
     by-found false e = o .none e

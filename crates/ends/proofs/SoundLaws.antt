@@ -27,8 +27,8 @@ use Rattle.papers.proofs.CheckLaws.{papers-complete}
 use Rattle.tables.specs.Offsets.{rowCount}
 use Rattle.tables.specs.Shape.{shaped, marksTests}
 use Rattle.tables.proofs.JudgedLaws.{marks-pass}
-use Rattle.ends.specs.Reducing.{stepCount, stepOf, reduces, reducing, placeOf}
-use Rattle.ends.specs.Ends.{overAt, overApplied, soundEnd, usable, papersIn, Sound}
+use Rattle.ends.specs.Reducing.{stepCount, stepOf, reduces, reducing, stepsBefore}
+use Rattle.ends.specs.Ends.{overAt, overApplied, soundEnd, usable, papersOfEnd, Sound}
 use Rattle.ends.specs.declared.ends.End.{End}
 use Rattle.ends.proofs.CountingLaws.{counting-less}
 
@@ -36,18 +36,18 @@ use Rattle.ends.proofs.CountingLaws.{counting-less}
 
 -- exactly where no relation has too many
 module _ (p : Program) (relations : ℕ) (applied : List ℕ) where
-  pub not-over : ((r : ℕ) → r < relations → getD applied r 0 ≤ placeOf p r (stepCount p)) → overApplied p relations applied ≡ false
+  pub not-over : ((r : ℕ) → r < relations → getD applied r 0 ≤ stepsBefore p r (stepCount p)) → overApplied p relations applied ≡ false
   unfolding overApplied overAt
   not-over h =
       not-holds _ λ t.
       let (r, m, over) = any-from (overAt p applied) (below relations) t in
-      let more : placeOf p r (stepCount p) < getD applied r 0 = ltb-true _ _ over in
+      let more : stepsBefore p r (stepCount p) < getD applied r 0 = ltb-true _ _ over in
       absurd (omega (arith, h r (below-from relations m)))
 
 -- a step of a relation stands before the relation's last
-pub place-less : (p : Program) (n : ℕ) → n < stepCount p → placeOf p (stepOf p n .left .relation) n < placeOf p (stepOf p n .left .relation) (stepCount p)
-unfolding placeOf reducing stepOf reduces
-place-less p n h =
+pub before-less : (p : Program) (n : ℕ) → n < stepCount p → stepsBefore p (stepOf p n .left .relation) n < stepsBefore p (stepOf p n .left .relation) (stepCount p)
+unfolding stepsBefore reducing stepOf reduces
+before-less p n h =
     let r = stepOf p n .left .relation in
     let a : min n (length (stepsOf p)) ≡ n = omega arith in
     let b : min (length (stepsOf p)) (length (stepsOf p)) ≡ length (stepsOf p) = omega arith in
@@ -58,33 +58,33 @@ place-less p n h =
 -- ---- a sound end is usable
 
 module _ (x : End) (room : ℕ) (s : Sound x room) where
-  pub sound-taken : soundEnd x ≡ good (papersIn x) (length (programBytes (x .program)))
+  pub sound-taken : soundEnd x ≡ good (papersOfEnd x) (length (programBytes (x .program)))
   unfolding soundEnd
   sound-taken =
       let none : overApplied (x .program) (relationCount (x .envelope)) (x .applied) ≡ false =
       not-over (x .program) (relationCount (x .envelope)) (x .applied) (s .counts) in
-      rw (papers-complete (papersIn x) (s .papers), none)
+      rw (papers-complete (papersOfEnd x) (s .papers), none)
 
   module _ (words : List ℕ) (n : ℕ) (shape : shaped (x .envelope) words ≡ true) (enough : rowCount (x .envelope) words ≤ n) where
-    pub sound-usable : usable x words n ≡ good (papersIn x) (length (programBytes (x .program)))
+    pub sound-usable : usable x words n ≡ good (papersOfEnd x) (length (programBytes (x .program)))
     unfolding usable
     sound-usable =
         ap (λ (o : Outcome Papers). next o (λ q p. judged (marksTests (q .envelope) words n) (good q p))) sound-taken
-        ∙ judged-none (marksTests (x .envelope) words n) (good (papersIn x) (length (programBytes (x .program))))
+        ∙ judged-none (marksTests (x .envelope) words n) (good (papersOfEnd x) (length (programBytes (x .program))))
         (marks-pass (x .envelope) words n .1 (shape, enough))
 
     -- so a call works on the papers as they stand
-    pub sound-call : {A : Type 0} (with : Papers → Outcome A) → next (usable x words n) (λ q _. with q) ≡ with (papersIn x)
+    pub sound-call : {A : Type 0} (with : Papers → Outcome A) → next (usable x words n) (λ q _. with q) ≡ with (papersOfEnd x)
     sound-call with = ap (λ (o : Outcome Papers). next o (λ q _. with q)) sound-usable
 
 -- and where a call on a sound end goes on, it is with its own papers
-pub own-papers : (x : End) (room : ℕ) → Sound x room → (words : List ℕ) (n : ℕ) (q : Papers) (u : ℕ) → usable x words n ≡ good q u → q ≡ papersIn x
+pub own-papers : (x : End) (room : ℕ) → Sound x room → (words : List ℕ) (n : ℕ) (q : Papers) (u : ℕ) → usable x words n ≡ good q u → q ≡ papersOfEnd x
 unfolding usable
 own-papers x room s words n q u h =
     let (f, w, read, rest) = next-good (soundEnd x) _ q u h in
     let (none, made) = judged-good (marksTests (f .envelope) words n) (good f w) q u .0 rest in
-    let own : good f w ≡ good (papersIn x) (length (programBytes (x .program))) = sym read ∙ sound-taken x room s in
-    let same : f ≡ papersIn x = cc in
+    let own : good f w ≡ good (papersOfEnd x) (length (programBytes (x .program))) = sym read ∙ sound-taken x room s in
+    let same : f ≡ papersOfEnd x = cc in
     let that : f ≡ q = cc in
     sym that ∙ same
 

@@ -19,7 +19,7 @@ use Rattle.papers.specs.declared.programs.Program.{Program}
 use Rattle.papers.specs.declared.checks.Papers.{Papers}
 use Rattle.tables.specs.Offsets.{rowCount}
 use Rattle.tables.specs.Shape.{shaped, marksTests}
-use Rattle.ends.specs.Reducing.{stepCount, placeOf}
+use Rattle.ends.specs.Reducing.{stepCount, stepsBefore}
 use Rattle.ends.specs.declared.ends.End.{End}
 
 -- steps applied of a relation
@@ -32,7 +32,7 @@ hasArrived x r = getD (x .arrived) r false
 
 -- more applied steps of a relation than the program has of it
 unfoldable pub overAt : Program → List ℕ → ℕ → Bool
-overAt p applied r = ltb (placeOf p r (stepCount p)) (getD applied r 0)
+overAt p applied r = ltb (stepsBefore p r (stepCount p)) (getD applied r 0)
 
 -- of one of so many relations
 unfoldable pub overApplied : Program → ℕ → List ℕ → Bool
@@ -57,14 +57,14 @@ pub record Usable (q : Papers) (words : List ℕ) (n : ℕ) : Type 0 where
   pub room : rowCount (q .envelope) words ≤ n
 
 -- the papers of an end, as they stand in it
-abbrev pub papersIn : End → Papers
-papersIn x = record { envelope = x .envelope; program = x .program }
+abbrev pub papersOfEnd : End → Papers
+papersOfEnd x = record { envelope = x .envelope; program = x .program }
 
 -- an end as the calls hand it on, beside a store of so many words: its papers are good, no relation has more applied steps than
 -- the program has of it, each of eight relations has its place, and no more words are used than there are
 pub record Sound (x : End) (room : ℕ) : Type 0 where
-  pub papers : GoodPapers (papersIn x)
-  pub counts : (r : ℕ) → r < relationCount (x .envelope) → appliedOf x r ≤ placeOf (x .program) r (stepCount (x .program))
+  pub papers : GoodPapers (papersOfEnd x)
+  pub counts : (r : ℕ) → r < relationCount (x .envelope) → appliedOf x r ≤ stepsBefore (x .program) r (stepCount (x .program))
   pub eight : (length (x .applied) ≡ 8) × (length (x .arrived) ≡ 8)
   pub held : x .used ≤ room
 

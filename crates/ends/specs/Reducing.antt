@@ -28,12 +28,12 @@ unfoldable pub reducing : List Step → ℕ → ℕ → List ℕ
 reducing steps r n = filter (reduces steps r) (below (min n (length steps)))
 
 -- how many there are: of a step that reduces r, its place among the steps of r
-unfoldable pub placeOf : Program → ℕ → ℕ → ℕ
-placeOf p r n = length (reducing (stepsOf p) r n)
+unfoldable pub stepsBefore : Program → ℕ → ℕ → ℕ
+stepsBefore p r n = length (reducing (stepsOf p) r n)
 
 -- with so many steps of r applied, one of those below n is missing; the first of them
 unfoldable pub isMissing : Program → ℕ → ℕ → ℕ → Bool
-isMissing p r applied n = ltb applied (placeOf p r n)
+isMissing p r applied n = ltb applied (stepsBefore p r n)
 
 unfoldable pub firstMissing : Program → ℕ → ℕ → ℕ → ℕ
 firstMissing p r applied n = getD (reducing (stepsOf p) r n) applied 0

@@ -10,7 +10,7 @@ use Rattle.ground.specs.Tests.{pick}
 use Rattle.papers.specs.Programs.{stepsOf}
 use Rattle.paths.specs.declared.steps.Step.{Step}
 use Rattle.papers.specs.declared.programs.Program.{Program}
-use Rattle.ends.specs.Reducing.{reducing, placeOf}
+use Rattle.ends.specs.Reducing.{reducing, stepsBefore}
 use Rattle.ends.specs.declared.reducing.Search.{Search}
 
 -- one step is looked at
@@ -31,6 +31,6 @@ soughtFrom (s ∷ steps) i c = soughtFrom steps (i + 1) (seenOf c s i)
 
 -- what a search behind so many steps of r says of the steps of r below n: the next one is found, or all of them were passed over
 pub record Found (p : Program) (r skip n : ℕ) (c : Search) : Type 0 where
-  pub few : placeOf p r n ≤ 156
-  pub one : c .found ≡ true → (skip < placeOf p r n) × (getD (reducing (stepsOf p) r n) skip 0 ≡ c .at)
-  pub none : c .found ≡ false → placeOf p r n + c .skip ≡ skip
+  pub few : stepsBefore p r n ≤ 156
+  pub one : c .found ≡ true → (skip < stepsBefore p r n) × (getD (reducing (stepsOf p) r n) skip 0 ≡ c .at)
+  pub none : c .found ≡ false → stepsBefore p r n + c .skip ≡ skip

@@ -49,7 +49,7 @@ fn is_over_applied(program: Program, relations: u8, applied: [u32; 8]) -> bool
     let n = program.count as usize;
     let mut relation: u8 = 0;
     while (relation as usize) < end {
-        if crate::reducing::place_of(program, relation, n) < applied[relation as usize] {
+        if crate::reducing::steps_before(program, relation, n) < applied[relation as usize] {
             return true;
         }
         relation += 1;

@@ -5,7 +5,7 @@ ghost use mathlib.Core.Path.{_≡_};
 ghost use Prim.Native.Nat.{min};
 ghost use lib.ListN.{length, getD, take};
 ghost use Rattle.papers.specs.Programs.{noStep};
-ghost use Rattle.ends.specs.Reducing.{stepCount, stepOf, placeOf, missingOf};
+ghost use Rattle.ends.specs.Reducing.{stepCount, stepOf, stepsBefore, missingOf};
 ghost use Rattle.ends.specs.Searching.{seenOf, soughtFrom, Found};
 
 // The number of the first step that is missing.
@@ -62,7 +62,7 @@ pub fn step_count(program: Program) -> u8
 }
 
 // How many of the first n steps there are.
-fn steps_before(count: u8, n: usize) -> usize
+fn used_below(count: u8, n: usize) -> usize
     ensures { λ r. ⌜ r ≡ min n (min 156 count) ⌝ }
 {
     let end = ground::used::in_use(156, count);
@@ -121,7 +121,7 @@ fn next_step(program: Program, relation: u8, skip: u32, n: usize) -> Search
     let search = Search {
         relation,
         skip,
-        end: steps_before(program.count, n),
+        end: used_below(program.count, n),
         found: false,
         at: 0,
     };
@@ -129,8 +129,8 @@ fn next_step(program: Program, relation: u8, skip: u32, n: usize) -> Search
 }
 
 // How many of the first n steps reduce a relation: of 156 steps to pass over, those that were passed over.
-pub fn place_of(program: Program, relation: u8, n: usize) -> u32
-    ensures { λ r. ⌜ r ≡ placeOf program relation n ⌝ }
+pub fn steps_before(program: Program, relation: u8, n: usize) -> u32
+    ensures { λ r. ⌜ r ≡ stepsBefore program relation n ⌝ }
 {
     let search = next_step(program, relation, 156, n);
     156 - search.skip

@@ -23,7 +23,7 @@ use Rattle.papers.specs.Checks.{GoodPapers}
 use Rattle.papers.specs.declared.checks.Papers.{Papers}
 use Rattle.tables.specs.Shape.{shaped}
 use Rattle.tables.specs.Values.{risingValues}
-use Rattle.ends.specs.Reducing.{stepCount, stepOf, placeOf}
+use Rattle.ends.specs.Reducing.{stepCount, stepOf, stepsBefore}
 use Rattle.ends.specs.Ends.{Marked, appliedOf, hasArrived}
 use Rattle.ends.specs.Messages.{frontLength, runOf, secondOf, aboutOf, counted, soundValues}
 use Rattle.station.specs.Making.{sentRows}
@@ -96,13 +96,13 @@ module _ (q : Papers) (good-papers : GoodPapers q) (x : End) (words marks : List
     abbrev again : Test
     again =
         test
-        (ltb (placeOf (q .program) (stepOf (q .program) n .left .relation) n) (appliedOf y (stepOf (q .program) n .left .relation)))
+        (ltb (stepsBefore (q .program) (stepOf (q .program) n .left .relation) n) (appliedOf y (stepOf (q .program) n .left .relation)))
         alreadyTaken 0
 
     abbrev early : Test
     early =
         test
-        (ltb (appliedOf y (stepOf (q .program) n .left .relation)) (placeOf (q .program) (stepOf (q .program) n .left .relation) n))
+        (ltb (appliedOf y (stepOf (q .program) n .left .relation)) (stepsBefore (q .program) (stepOf (q .program) n .left .relation) n))
         stepMissing 0
 
     pub values-delivered : (k u : ℕ) → receiveWith q y others those store m ≡ bad k u
@@ -117,14 +117,14 @@ module _ (q : Papers) (good-papers : GoodPapers q) (x : End) (words marks : List
 
     -- taken where its relation is and its turn has come
     pub values-arrive : isAt (q .envelope) (y .site) (stepOf (q .program) n .left .relation) ≡ true
-        → placeOf (q .program) (stepOf (q .program) n .left .relation) n ≡ appliedOf y (stepOf (q .program) n .left .relation)
+        → stepsBefore (q .program) (stepOf (q .program) n .left .relation) n ≡ appliedOf y (stepOf (q .program) n .left .relation)
         → receiveWith q y others those store m ≡ good (held q y others those store m (stepEffect q y others those m n)) 0
     unfolding taken
     values-arrive here due =
         let r = stepOf (q .program) n .left .relation in
         let found : valuesTaken q y others those m n ≡ good (stepEffect q y others those m n) 0 =
         step-judged q y others those m n
-        ∙ rw (here, sound, le-ltb (placeOf (q .program) r n) (appliedOf y r) (omega arith), le-ltb (appliedOf y r) (placeOf (q .program) r n) (omega arith)) in
+        ∙ rw (here, sound, le-ltb (stepsBefore (q .program) r n) (appliedOf y r) (omega arith), le-ltb (appliedOf y r) (stepsBefore (q .program) r n) (omega arith)) in
         step-spoken ∙ rw found
 
   -- ---- a row message

@@ -20,8 +20,8 @@ use Rattle.papers.specs.declared.checks.Papers.{Papers}
 use Rattle.tables.specs.Offsets.{rowCount}
 use Rattle.tables.specs.Shape.{shaped}
 use Rattle.tables.specs.Values.{risingValues}
-use Rattle.ends.specs.Reducing.{stepCount, stepOf, placeOf, isMissing}
-use Rattle.ends.specs.Ends.{appliedOf, usable, Usable, papersIn, Sound}
+use Rattle.ends.specs.Reducing.{stepCount, stepOf, stepsBefore, isMissing}
+use Rattle.ends.specs.Ends.{appliedOf, usable, Usable, papersOfEnd, Sound}
 use Rattle.ends.specs.Messages.{valueMessage, rowMessage}
 use Rattle.station.specs.Making.{sendTests, fitted, valuesWith, makeValuesOf, sentRows, rowsWith, makeRowsOf, madeIn}
 use Rattle.ends.specs.declared.ends.End.{End}
@@ -36,7 +36,7 @@ module _ (p : Program) (applied : List ℕ) (ours : Bool) (r n room : ℕ) (w : 
   sending = judged (sendTests p applied ours r n) (fitted room w)
 
   sent-facts : (m : List ℕ) (u : ℕ) → sending ≡ good m u
-      → (ours ≡ true) × (placeOf p r n ≤ getD applied r 0) × (m ≡ w) × (length m ≤ room) × (u ≡ length m)
+      → (ours ≡ true) × (stepsBefore p r n ≤ getD applied r 0) × (m ≡ w) × (length m ≤ room) × (u ≡ length m)
   unfolding fitted isMissing
   sent-facts m u h =
       let (none, rest) = judged-good (sendTests p applied ours r n) (fitted room w) m u .0 h in
@@ -64,7 +64,7 @@ module _ (p : Program) (applied : List ℕ) (ours : Bool) (r n room : ℕ) (w : 
 pub record ValuesMade (q : Papers) (x : End) (words marks : List ℕ) (n : ℕ) (m : List ℕ) : Type 0 where
   pub exists : n < stepCount (q .program)
   pub here : isAt (q .envelope) (x .site) (stepOf (q .program) n .right .relation) ≡ true
-  pub ready : placeOf (q .program) (stepOf (q .program) n .right .relation) n ≤ appliedOf x (stepOf (q .program) n .right .relation)
+  pub ready : stepsBefore (q .program) (stepOf (q .program) n .right .relation) n ≤ appliedOf x (stepOf (q .program) n .right .relation)
   pub is : m ≡ valueMessage (x .run) n (risingValues (q .envelope) words marks (stepOf (q .program) n .right))
 
 module _ (x : End) (words marks : List ℕ) (n room : ℕ) where
@@ -107,7 +107,7 @@ module _ (x : End) (words marks : List ℕ) (n room : ℕ) where
 
 pub record RowsMade (q : Papers) (x : End) (words marks : List ℕ) (r : ℕ) (m : List ℕ) : Type 0 where
   pub here : isAt (q .envelope) (x .site) r ≡ true
-  pub ready : placeOf (q .program) r (stepCount (q .program)) ≤ appliedOf x r
+  pub ready : stepsBefore (q .program) r (stepCount (q .program)) ≤ appliedOf x r
   pub is : m ≡ rowMessage (x .run) r (sentRows (q .envelope) words marks r)
 
 module _ (x : End) (words marks : List ℕ) (r room : ℕ) where
@@ -152,10 +152,10 @@ module _ (out : List ℕ) (o : Outcome (List ℕ)) (n u : ℕ) (h : o ≡ bad n 
 
 module _ (x : End) (held : ℕ) (s : Sound x held) (words marks : List ℕ) (shape : shaped (x .envelope) words ≡ true)
     (enough : rowCount (x .envelope) words ≤ length marks) where
-  pub sound-values : (n room : ℕ) → makeValuesOf x words marks n room ≡ valuesWith (papersIn x) x words marks n room
+  pub sound-values : (n room : ℕ) → makeValuesOf x words marks n room ≡ valuesWith (papersOfEnd x) x words marks n room
   unfolding makeValuesOf
   sound-values n room = sound-call x held s words (length marks) shape enough (λ q. valuesWith q x words marks n room)
 
-  pub sound-rows : (r room : ℕ) → makeRowsOf x words marks r room ≡ rowsWith (papersIn x) x words marks r room
+  pub sound-rows : (r room : ℕ) → makeRowsOf x words marks r room ≡ rowsWith (papersOfEnd x) x words marks r room
   unfolding makeRowsOf
   sound-rows r room = sound-call x held s words (length marks) shape enough (λ q. rowsWith q x words marks r room)

@@ -15,7 +15,7 @@ use Rattle.fields.specs.Refusals.{notSound, alreadyTaken, stepMissing}
 use Rattle.paths.specs.declared.steps.Step.{Step}
 use Rattle.papers.specs.declared.programs.Program.{Program}
 use Rattle.tables.specs.Rising.{isRising}
-use Rattle.ends.specs.Reducing.{stepCount, stepOf, placeOf, missingOf}
+use Rattle.ends.specs.Reducing.{stepCount, stepOf, stepsBefore, missingOf}
 use Rattle.ends.specs.declared.reducing.Missing.{Missing}
 use Rattle.ends.specs.declared.reducing.Missing.the-variants.{First, None}
 use Rattle.station.specs.Receiving.{isNext, notNext}
@@ -56,7 +56,7 @@ module _ (m by : List ℕ) (p : by ≡ drop 3 m) (missing : Missing) (b : Bool) 
 module _ (p : Program) (n : ℕ) (inside : n < stepCount p) (s : Step) (e : s ≡ stepOf p n) (done : ℕ) (missing : Missing)
     (i : missing ≡ missingOf p (s .left .relation) done (n + 1)) where
   abbrev place : ℕ
-  place = placeOf p (s .left .relation) n
+  place = stepsBefore p (s .left .relation) n
 
   own : stepOf p n .left .relation ≡ s .left .relation
   own = ap (λ (y : Step). y .left .relation) (sym e)

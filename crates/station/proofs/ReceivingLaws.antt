@@ -23,7 +23,7 @@ use Rattle.papers.specs.declared.checks.Papers.{Papers}
 use Rattle.semijoin.specs.Marks.{reducedBy}
 use Rattle.tables.specs.Rows.{keptAt}
 use Rattle.semijoin.proofs.PromiseLaws.{promise}
-use Rattle.ends.specs.Reducing.{stepCount, stepOf, placeOf}
+use Rattle.ends.specs.Reducing.{stepCount, stepOf, stepsBefore}
 use Rattle.station.specs.Calls.{leaves}
 use Rattle.ends.specs.Ends.{Marked, appliedOf, hasArrived, usable, Usable}
 use Rattle.ends.specs.Messages.{frontLength, runOf, secondOf, bodyOf, aboutOf, counted, soundValues}
@@ -42,7 +42,7 @@ pub record StepTaken (q : Papers) (x : End) (words marks m : List ℕ) (n : ℕ)
   pub exists : n < stepCount (q .program)
   pub here : isAt (q .envelope) (x .site) (stepOf (q .program) n .left .relation) ≡ true
   pub sound : soundValues m ≡ true
-  pub due : placeOf (q .program) (stepOf (q .program) n .left .relation) n ≡ appliedOf x (stepOf (q .program) n .left .relation)
+  pub due : stepsBefore (q .program) (stepOf (q .program) n .left .relation) n ≡ appliedOf x (stepOf (q .program) n .left .relation)
   pub end : y ≡ withApplied x (stepOf (q .program) n .left .relation)
   pub marked : after ≡ reducedBy (q .envelope) words (bodyOf m) (stepOf (q .program) n .left) marks
 
@@ -54,8 +54,8 @@ module _ (q : Papers) (x : End) (words marks m : List ℕ) (n : ℕ) where
   stepTests =
       test (not (isAt (q .envelope) (x .site) relation)) notOurs 0
       ∷ test (not (soundValues m)) notSound 0
-      ∷ test (ltb (placeOf (q .program) relation n) (appliedOf x relation)) alreadyTaken 0
-      ∷ test (ltb (appliedOf x relation) (placeOf (q .program) relation n)) stepMissing 0
+      ∷ test (ltb (stepsBefore (q .program) relation n) (appliedOf x relation)) alreadyTaken 0
+      ∷ test (ltb (appliedOf x relation) (stepsBefore (q .program) relation n)) stepMissing 0
       ∷ []
 
   abbrev pub stepEffect : Marked
@@ -80,8 +80,8 @@ module _ (q : Papers) (x : End) (words marks m : List ℕ) (n : ℕ) where
         here = not-false _ (passed .0);
         sound = not-false _ (passed .1 .0);
         due =
-            let late : appliedOf x relation ≤ placeOf (q .program) relation n = ltb-false _ _ (passed .1 .1 .0) in
-            let early : placeOf (q .program) relation n ≤ appliedOf x relation = ltb-false _ _ (passed .1 .1 .1 .0) in
+            let late : appliedOf x relation ≤ stepsBefore (q .program) relation n = ltb-false _ _ (passed .1 .1 .0) in
+            let early : stepsBefore (q .program) relation n ≤ appliedOf x relation = ltb-false _ _ (passed .1 .1 .1 .0) in
             omega arith;
         end = ap (λ (k : Marked). k .end) (sym same);
         marked = ap (λ (k : Marked). k .marks) (sym same);

@@ -32,7 +32,7 @@ use Rattle.semijoin.specs.Marks.{reducedBy, reduceOutcome, reducedOf, marksAfte
 use Rattle.semijoin.specs.declared.marks.Reduced.{Reduced}
 use Rattle.semijoin.specs.declared.marks.Reduced.the-variants as r
 use Rattle.semijoin.proofs.CallLaws.{call-promise}
-use Rattle.ends.specs.Reducing.{stepCount, stepOf, placeOf, missingOf}
+use Rattle.ends.specs.Reducing.{stepCount, stepOf, stepsBefore, missingOf}
 use Rattle.ends.specs.declared.reducing.Missing.{Missing}
 use Rattle.station.specs.Calls.{leaves}
 use Rattle.ends.specs.Ends.{Marked, Usable}
@@ -40,7 +40,7 @@ use Rattle.ends.specs.Messages.{counted, soundValues}
 use Rattle.station.specs.Receiving.{Stored, appliedTo, withApplied, withArrived, isNext, notNext, valuesTaken, rowsTaken, refusedBy, shownReceived}
 use Rattle.ends.specs.declared.ends.End.{End}
 use Rattle.station.specs.declared.receiving.Received.{Received}
-use Rattle.ends.proofs.ReducingLaws.{place-most}
+use Rattle.ends.proofs.ReducingLaws.{before-most}
 use Rattle.ends.proofs.EndLaws.{step-legal, here-below}
 use Rattle.station.proofs.NextCodeLaws.{next-same, next-other, not-next-by}
 
@@ -160,7 +160,7 @@ module _ (q : Papers) (g : GoodPapers q) (n : ℕ) (l : n < stepCount (q .progra
       omega (
         arith,
         next-same (q .program) n l s e done missing i b f t,
-        place-most (q .program) n (s .left .relation),
+        before-most (q .program) n (s .left .relation),
         values-behind,
       )
 
@@ -191,7 +191,7 @@ module _ (q : Papers) (x : End) (words marks m : List ℕ) (n : ℕ) (u : Usable
     module _ (h : not d ≡ false) (done : ℕ) (j : done ≡ getD (x .applied) (s .left .relation) 0) (missing : Missing)
         (i : missing ≡ missingOf (q .program) (s .left .relation) done (n + 1)) (is : Bool) (known : is ≡ isNext missing n) where
       abbrev its-place : ℕ
-      its-place = placeOf (q .program) (s .left .relation) n
+      its-place = stepsBefore (q .program) (s .left .relation) n
 
       -- what comes before 16 and 17
       sound-by : soundValues m ≡ isRising (drop 3 m)

@@ -18,7 +18,7 @@ use Rattle.contents.specs.Kept.{keptColumns}
 use Rattle.paths.specs.declared.steps.Step.{Step}
 use Rattle.papers.specs.declared.checks.Papers.{Papers}
 use Rattle.semijoin.specs.Marks.{reducedBy}
-use Rattle.ends.specs.Reducing.{stepCount, stepOf, placeOf}
+use Rattle.ends.specs.Reducing.{stepCount, stepOf, stepsBefore}
 use Rattle.station.specs.Calls.{leaves}
 use Rattle.ends.specs.Ends.{Marked, appliedOf, hasArrived, usable}
 use Rattle.ends.specs.Messages.{frontLength, runOf, secondOf, bodyOf, aboutOf, counted, soundValues}
@@ -80,12 +80,12 @@ notNext None = alreadyTaken
 unfoldable pub valuesTaken : Papers → End → List ℕ → List ℕ → List ℕ → ℕ → Outcome Marked
 valuesTaken q x words marks m n =
     let a = stepOf (q .program) n .left in
-    let place = placeOf (q .program) (a .relation) n in
+    let before = stepsBefore (q .program) (a .relation) n in
     judged
     (test (not (isAt (q .envelope) (x .site) (a .relation))) notOurs 0
     ∷ test (not (soundValues m)) notSound 0
-    ∷ test (ltb place (appliedOf x (a .relation))) alreadyTaken 0
-    ∷ test (ltb (appliedOf x (a .relation)) place) stepMissing 0
+    ∷ test (ltb before (appliedOf x (a .relation))) alreadyTaken 0
+    ∷ test (ltb (appliedOf x (a .relation)) before) stepMissing 0
     ∷ [])
     (good (record { end = withApplied x (a .relation); marks = reducedBy (q .envelope) words (bodyOf m) a marks }) 0)
 

@@ -4,7 +4,7 @@ use Rattle.boundary.proofs.planning.program_for.Statement.{statement}
 use Rattle.boundary.proofs.planning.program_for.Tie as tie
 use Rattle.boundary.proofs.planning.program_for.Reads as reads
 use Rattle.boundary.proofs.planning.program_for.Lts as lts
-use Rattle.boundary.proofs.planning.steps_in.Reads as steps-in-reads
+use Rattle.boundary.proofs.planning.line_steps.Reads as line-steps-reads
 use Rattle.planner.proofs.planner.plan_paper.Reads as plan-paper-reads
 
 -- src/planning.rt:53:9
@@ -12,12 +12,12 @@ plan-paper-requires : tie.Need-plan-paper-requires
 plan-paper-requires c κs = search needs
 
 -- src/planning.rt:55:9
-steps-in-requires : tie.Need-steps-in-requires
-steps-in-requires c κs = search needs
+line-steps-requires : tie.Need-line-steps-requires
+line-steps-requires c κs = search needs
 
 -- src/planning.rt:50:1
 returns : tie.Need-returns
-returns c = program-is _ _ _ (c .before .before .plan-paper .ensures) (c .steps-in .ensures)
+returns c = program-is _ _ _ (c .before .before .plan-paper .ensures) (c .line-steps .ensures)
 
 pub program-for-spec : {M : Type 1} → statement M
-program-for-spec = tie.close (tie.spec plan-paper-requires steps-in-requires returns)
+program-for-spec = tie.close (tie.spec plan-paper-requires line-steps-requires returns)

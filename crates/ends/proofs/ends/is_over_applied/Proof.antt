@@ -9,7 +9,7 @@ use Rattle.ends.proofs.ends.is_over_applied.Tie as tie
 use Rattle.ends.proofs.ends.is_over_applied.Reads as reads
 use Rattle.ends.proofs.ends.is_over_applied.Lts as lts
 use Rattle.ground.proofs.used.in_use.Reads as in-use-reads
-use Rattle.ends.proofs.reducing.place_of.Reads as place-of-reads
+use Rattle.ends.proofs.reducing.steps_before.Reads as steps-before-reads
 
 abbrev Inv-loop : tie.InvT-loop
 Inv-loop program relations applied end n relation₀ relation = Looking someFrom (overAt program applied) end relation
@@ -34,8 +34,8 @@ cast-loop : tie.Need-cast-loop Inv-loop μ-loop
 cast-loop c = omega arith
 
 -- src/ends.rt:84:12
-place-of-requires : tie.Need-place-of-requires Inv-loop μ-loop
-place-of-requires c κs = search needs
+steps-before-requires : tie.Need-steps-before-requires Inv-loop μ-loop
+steps-before-requires c κs = search needs
 
 -- src/ends.rt:84:70
 cast-if1 : tie.Need-cast-if1 Inv-loop μ-loop
@@ -63,7 +63,7 @@ loop-less c = omega arith
 
 -- src/ends.rt:83:5
 loop-again : tie.Need-loop-again Inv-loop μ-loop
-loop-again c = over-passed _ _ _ _ (c .before .before .before .loop .inv) (c .before .before .loop-test .taken) _ (c .before .place-of .ensures) (c .if1 .left)
+loop-again c = over-passed _ _ _ _ (c .before .before .before .loop .inv) (c .before .before .loop-test .taken) _ (c .before .steps-before .ensures) (c .if1 .left)
 
 -- src/ends.rt:77:1
 returns-2 : tie.Need-returns-2 Inv-loop μ-loop
@@ -79,7 +79,7 @@ is-over-applied-spec =
     cast-n
     loop-holds
     cast-loop
-    place-of-requires
+    steps-before-requires
     cast-if1
     mul-if1
     array-read-if1

@@ -1,18 +1,18 @@
 use mathlib.Core.Path.{refl}
 use Prim.Native.Nat.{_-_}
 use Rattle.ground.proofs.PuttingLaws.{Copying, copying-start}
-use Rattle.boundary.specs.Planning.{stepsIn}
+use Rattle.boundary.specs.Planning.{lineSteps}
 use Rattle.boundary.proofs.PlanningLaws.{steps-start, steps-more, steps-done}
 use borrow.Author.Needs.{needs}
 use native.Mathlib.Omega.{arith}
-use Rattle.boundary.proofs.planning.steps_in.Statement.{statement}
-use Rattle.boundary.proofs.planning.steps_in.Tie as tie
-use Rattle.boundary.proofs.planning.steps_in.Reads as reads
-use Rattle.boundary.proofs.planning.steps_in.Lts as lts
+use Rattle.boundary.proofs.planning.line_steps.Statement.{statement}
+use Rattle.boundary.proofs.planning.line_steps.Tie as tie
+use Rattle.boundary.proofs.planning.line_steps.Reads as reads
+use Rattle.boundary.proofs.planning.line_steps.Lts as lts
 use Rattle.papers.proofs.programs.no_step.Reads as no-step-reads
 
 abbrev Inv-loop : tie.InvT-loop
-Inv-loop lines steps₀ i₀ steps i = Copying (stepsIn lines) steps₀ 0 156 i i steps
+Inv-loop lines steps₀ i₀ steps i = Copying (lineSteps lines) steps₀ 0 156 i i steps
 
 abbrev μ-loop : tie.MeasureT-loop
 μ-loop lines steps₀ i₀ steps i = 156 - i
@@ -57,8 +57,8 @@ loop-again c = steps-more _ _ _ _ (c .before .before .before .loop .inv) (omega 
 returns : tie.Need-returns Inv-loop μ-loop
 returns c = steps-done _ _ _ _ (c .before .loop .inv) (omega arith) (c .loop-test .left) refl
 
-pub steps-in-spec : {M : Type 1} → statement M
-steps-in-spec =
+pub line-steps-spec : {M : Type 1} → statement M
+line-steps-spec =
     tie.close
     (tie.spec
     Inv-loop
