@@ -14,7 +14,7 @@ use Rattle.ground.specs.Bytes.{littleEnd, bytesOf}
 use Rattle.ground.specs.Searching.{firstFrom}
 use Rattle.ground.specs.Rising.{insert, rising}
 use Rattle.ground.proofs.OutcomeLaws.{good-bad}
-use Rattle.fields.specs.Numbers.{numberAt, numberThat, marked, markOf, versionAt, headOf}
+use Rattle.fields.specs.Numbers.{numberAt, numberThat, marked, markAt, versionAt, headOf}
 use Rattle.entries.specs.Relations.{columnsOf, columnAt, columnBytes, columnsThen, relationAt, relationBytes}
 use Rattle.entries.specs.Places.{place, samePlace, placeAt, placeBytes}
 use Rattle.entries.specs.Clauses.{domainOf, selectionAt, joined, joinAt, clauseAt, kindBytes}
@@ -47,7 +47,7 @@ use Rattle.answerer.specs.Answer.{fitted, answerChecked, answerOutcome}
 
 -- both envelopes are taken, as they are
 both-taken : (checkEnvelope E1 ≡ good E1 195) × (checkEnvelope fallen ≡ good fallen 44)
-unfolding padded numbersFrom numbered littleEnd bytesOf firstFrom numberAt numberThat marked markOf versionAt headOf columnsOf columnAt columnBytes columnsThen relationAt relationBytes samePlace placeAt placeBytes domainOf selectionAt joined joinAt clauseAt kindBytes columnsIn sizesOf relationsOf clausesOf targetsOf withVersion withSizes withRelations withClauses withTargets names kept keptColumns firstBare filled listInto ended targetsThen clausesThen relationsThen sizesThen envelopeFrom envelopeBytes checkEnvelope
+unfolding padded numbersFrom numbered littleEnd bytesOf firstFrom numberAt numberThat marked markAt versionAt headOf columnsOf columnAt columnBytes columnsThen relationAt relationBytes samePlace placeAt placeBytes domainOf selectionAt joined joinAt clauseAt kindBytes columnsIn sizesOf relationsOf clausesOf targetsOf withVersion withSizes withRelations withClauses withTargets names kept keptColumns firstBare filled listInto ended targetsThen clausesThen relationsThen sizesThen envelopeFrom envelopeBytes checkEnvelope
 both-taken = (refl, refl)
 
 -- what local operations alone cost
@@ -60,7 +60,7 @@ abbrev answerOf : Envelope → ℕ → Type 0
 answerOf e n = (w : List ℕ) × (u : ℕ) × (answerOutcome e couponWeigh (replicate 12 0) ≡ good w u) × (length w ≡ n)
 
 answers : answerOf onNumber 6 × answerOf onDate 12
-unfolding padded numbersFrom numbered littleEnd bytesOf firstFrom numberAt numberThat marked markOf versionAt headOf columnsOf columnAt columnBytes columnsThen relationAt relationBytes samePlace placeAt placeBytes domainOf selectionAt joined joinAt clauseAt kindBytes columnsIn sizesOf relationsOf clausesOf targetsOf withVersion withSizes withRelations withClauses withTargets names kept keptColumns firstBare filled listInto ended targetsThen clausesThen relationsThen sizesThen envelopeFrom envelopeBytes checkEnvelope rowsIn tablesIn tablesOf meetsAll answerOn answerRows countIn firstWord wordsBefore shaped fitted answerChecked answerOutcome
+unfolding padded numbersFrom numbered littleEnd bytesOf firstFrom numberAt numberThat marked markAt versionAt headOf columnsOf columnAt columnBytes columnsThen relationAt relationBytes samePlace placeAt placeBytes domainOf selectionAt joined joinAt clauseAt kindBytes columnsIn sizesOf relationsOf clausesOf targetsOf withVersion withSizes withRelations withClauses withTargets names kept keptColumns firstBare filled listInto ended targetsThen clausesThen relationsThen sizesThen envelopeFrom envelopeBytes checkEnvelope rowsIn tablesIn tablesOf meetsAll answerOn answerRows countIn firstWord wordsBefore shaped fitted answerChecked answerOutcome
 answers = ((_, 0, refl, refl), (_, 0, refl, refl))
 
 -- a legal step, and that of the marks that keep every row it removes the third

@@ -13,7 +13,7 @@ use Rattle.ground.specs.Outcome.{Outcome, next, andMore, numbered, many}
 use Rattle.ground.specs.Outcome.Outcome.{good, bad}
 use Rattle.ground.proofs.OutcomeLaws.{good-bad, next-bad}
 use Rattle.fields.specs.Refusals.{endsInside, wrongMark, wrongVersion, beyondLimit, twoDomains, sameColumn, leftOver, notLegal, noKeptColumn}
-use Rattle.fields.specs.Numbers.{numberAt, numberThat, between, under, marked, markOf, versionAt, headOf}
+use Rattle.fields.specs.Numbers.{numberAt, numberThat, between, under, marked, markAt, versionAt, headOf}
 use Rattle.entries.specs.Places.{place, samePlace, placeAt}
 use Rattle.entries.specs.Relations.{pastRelation, columnCount, columnAt, relationWith, columnsThen, relationAt}
 use Rattle.entries.specs.Clauses.{clause, domainOf, selectionAt, joined, joinAt, clauseAt}
@@ -68,12 +68,12 @@ module _ (P : ℕ → Type 0) where
     unfolding numberAt
     number w s at = picked (leb (at + w) (length s)) _ _ (taken (littleEnd w s at) (at + w)) (refused endsInside at one)
 
-    mark-number : P wrongMark → (letters s : List ℕ) → Refuses (markOf letters s)
-    unfolding markOf
-    mark-number two letters s =
-        picked (leb (length letters) (length s)) _ _
-        (picked (marked letters s 0) _ _ (taken letters (length letters)) (refused wrongMark 0 two))
-        (refused endsInside 0 one)
+    mark-number : P wrongMark → (letters s : List ℕ) (at : ℕ) → Refuses (markAt letters s at)
+    unfolding markAt
+    mark-number two letters s at =
+        picked (leb (at + length letters) (length s)) _ _
+        (picked (marked letters s at) _ _ (taken letters (at + length letters)) (refused wrongMark at two))
+        (refused endsInside at one)
 
     version-number : P wrongVersion → (newest : ℕ) (s : List ℕ) (at : ℕ) → Refuses (versionAt newest s at)
     unfolding versionAt
@@ -83,7 +83,7 @@ module _ (P : ℕ → Type 0) where
     pub head-number : P wrongMark → P wrongVersion → (letters : List ℕ) (newest : ℕ) (s : List ℕ) → Refuses (headOf letters newest s)
     unfolding headOf
     head-number two three letters newest s =
-        chained (markOf letters s) _ (mark-number two letters s) (λ _ p. version-number three newest s p)
+        chained (markAt letters s 0) _ (mark-number two letters s 0) (λ _ p. version-number three newest s p)
 
   module _ (one : P endsInside) (four : P beyondLimit) where
     pub number-that : (fits : ℕ → Bool) (w : ℕ) (s : List ℕ) (at : ℕ) → Refuses (numberThat fits w s at)

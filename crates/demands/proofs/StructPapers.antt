@@ -17,7 +17,7 @@ use Rattle.ground.proofs.EveryLaws.{every-take}
 use Rattle.ground.proofs.OutcomeLaws.{good-bad}
 use Rattle.ground.proofs.ByteLaws.{stands-self, stands-inside, bytes-length}
 use Rattle.fields.specs.Refusals.{wrongVersion, beyondLimit, twoDomains, sameColumn, notLegal, noKeptColumn}
-use Rattle.fields.specs.Numbers.{between, markOf, versionAt, headOf}
+use Rattle.fields.specs.Numbers.{between, markAt, versionAt, headOf}
 use Rattle.fields.proofs.NumberLaws.{between-true}
 use Rattle.fields.proofs.ExactNumbers.{mark-exact}
 use Rattle.entries.specs.Places.{placeAt, placeBytes}
@@ -83,19 +83,19 @@ module _ (P : ℕ → Type 0) (s : List ℕ) (four : P beyondLimit) where
       → Over P s 0 (headOf letters 1 s) (letters ++ bytesOf 2 v)
   unfolding headOf versionAt
   head-over letters v some small three stands =
-      over-chain P s 0 (markOf letters s) _ letters (bytesOf 2 v) stands mark
+      over-chain P s 0 (markAt letters s 0) _ letters (bytesOf 2 v) stands mark
       (λ _ z. over-restated P s (0 + length letters) _ (bytesOf 2 v ++ []) (bytesOf 2 v) (simp append-nil) z
       (λ y. over-plain P s four 2 v (0 + length letters) _ [] (omega arith) small y
       (λ _. over-pick P s _ (between 1 1 v) _ _ [] (over-done P s _ v) (over-bad P s _ wrongVersion _ [] three))))
     where
-      mark : Stands letters s 0 → Over P s 0 (markOf letters s) letters
+      mark : Stands letters s 0 → Over P s 0 (markAt letters s 0) letters
       mark z =
           let inside : 0 + length letters ≤ length s = stands-inside letters s 0 z some in
-          let is : markOf letters s ≡ good letters (length letters) =
-          mark-exact letters s .complete letters (length letters) refl (omega arith, z) (omega (arith, inside)) in
+          let is : markAt letters s 0 ≡ good letters (0 + length letters) =
+          mark-exact letters s 0 .complete letters (0 + length letters) refl (omega arith, z) (omega (arith, inside)) in
           record {
-            refuses = λ n u h. absurd (good-bad letters (length letters) n u (sym is ∙ h));
-            ends = λ l p h. let same : length letters ≡ p = cc (sym is ∙ h) in omega (arith, same);
+            refuses = λ n u h. absurd (good-bad letters (0 + length letters) n u (sym is ∙ h));
+            ends = λ l p h. let same : 0 + length letters ≡ p = cc (sym is ∙ h) in omega (arith, same);
           }
 
   -- a count within its limits, and as many of a kind

@@ -34,7 +34,7 @@ use Rattle.ground.specs.Lists.{padded, numbersFrom}
 use Rattle.ground.specs.Outcome.{numbered}
 use Rattle.ground.specs.Rising.{insert, rising}
 use Rattle.ground.specs.Searching.{firstFrom}
-use Rattle.fields.specs.Numbers.{numberAt, numberThat, marked, markOf, versionAt, headOf}
+use Rattle.fields.specs.Numbers.{numberAt, numberThat, marked, markAt, versionAt, headOf}
 use Rattle.entries.specs.Clauses.{domainOf, selectionAt, joined, joinAt, clauseAt, kindBytes}
 use Rattle.entries.specs.Places.{samePlace, placeAt, placeBytes}
 use Rattle.entries.specs.Relations.{columnsOf, columnAt, columnBytes, columnsThen, relationAt, relationBytes}
@@ -101,7 +101,7 @@ pub computed : (finish .made
     × (finish .at 1 .marks ≡ 1 ∷ 1 ∷ 0 ∷ 9 ∷ []) × (finish .at 2 .marks ≡ 1 ∷ 1 ∷ 1 ∷ 0 ∷ [])
     × (assembledOutcome (answering crew finish .end) (lentStore (answering crew finish) []) (replicate 6 0)
     ≡ good (11 ∷ 5 ∷ 12 ∷ 7 ∷ 12 ∷ 7 ∷ []) 0)
-unfolding littleEnd bytesOf padded numbersFrom numbered insert rising firstFrom numberAt numberThat marked markOf versionAt headOf domainOf selectionAt joined joinAt clauseAt kindBytes samePlace placeAt placeBytes columnsOf columnAt columnBytes columnsThen relationAt relationBytes names kept keptColumns firstBare sizesOf relationsOf clausesOf targetsOf columnsIn withVersion withSizes withRelations withClauses withTargets siteOf isAt holds filled listInto ended targetsThen clausesThen relationsThen sizesThen envelopeFrom envelopeBytes checkEnvelope constantsOf selectionsBy equalitiesBy rowsIn tablesIn tablesOf meetsAll answerOn answerRows edges onPath isPlace legalBy stepBytes papersOf stepsOf stepAt endedProgram stepsThen programBy readProgram programBytes checkProgram countIn wordsBefore rowsBefore firstWord rowsOver marksOver rowsAt marksAt isRising keptOf keptRows shaped valuesOver valuesOf risingValues passesBy passes openingMark openedAt opened openedIn sieved sievedOver reducedBy overAt overApplied soundEnd usable startOf valueMessage rowMessage aboutOf counted soundValues rowsOf stepOf reduces reducing stepsBefore isMissing firstMissing missingIn leaves fitted valuesWith makeValuesOf sentRows rowsWith makeRowsOf openWith openOf appliedTo withApplied withArrived valuesTaken rowsTaken taken-of receiveWith receiveOf firstAwaited answerOver assembled assembledWith assembledOutcome wordFrom rowFrom tableFrom tablesBehind standsIn layStored metBy messageAt dueIn laysFrom sourceHeld sourceOf answerFits siteOpened withMade withTaken after inTurn inOrder
+unfolding littleEnd bytesOf padded numbersFrom numbered insert rising firstFrom numberAt numberThat marked markAt versionAt headOf domainOf selectionAt joined joinAt clauseAt kindBytes samePlace placeAt placeBytes columnsOf columnAt columnBytes columnsThen relationAt relationBytes names kept keptColumns firstBare sizesOf relationsOf clausesOf targetsOf columnsIn withVersion withSizes withRelations withClauses withTargets siteOf isAt holds filled listInto ended targetsThen clausesThen relationsThen sizesThen envelopeFrom envelopeBytes checkEnvelope constantsOf selectionsBy equalitiesBy rowsIn tablesIn tablesOf meetsAll answerOn answerRows edges onPath isPlace legalBy stepBytes papersOf stepsOf stepAt endedProgram stepsThen programBy readProgram programBytes checkProgram countIn wordsBefore rowsBefore firstWord rowsOver marksOver rowsAt marksAt isRising keptOf keptRows shaped valuesOver valuesOf risingValues passesBy passes openingMark openedAt opened openedIn sieved sievedOver reducedBy overAt overApplied soundEnd usable startOf valueMessage rowMessage aboutOf counted soundValues rowsOf stepOf reduces reducing stepsBefore isMissing firstMissing missingIn leaves fitted valuesWith makeValuesOf sentRows rowsWith makeRowsOf openWith openOf appliedTo withApplied withArrived valuesTaken rowsTaken taken-of receiveWith receiveOf firstAwaited answerOver assembled assembledWith assembledOutcome wordFrom rowFrom tableFrom tablesBehind standsIn layStored metBy messageAt dueIn laysFrom sourceHeld sourceOf answerFits siteOpened withMade withTaken after inTurn inOrder
 computed = (refl, refl, refl, refl)
 
 -- ---- the crew is one that demand 3 speaks of
@@ -166,7 +166,7 @@ fits =
     }
 
 taken : papersOf onNumber program ≡ good (crew .papers) 15
-unfolding littleEnd bytesOf padded numbersFrom numbered firstFrom numberAt numberThat marked markOf versionAt headOf domainOf selectionAt joined joinAt clauseAt kindBytes samePlace placeAt placeBytes columnsOf columnAt columnBytes columnsThen relationAt relationBytes names kept keptColumns firstBare sizesOf relationsOf clausesOf targetsOf columnsIn withVersion withSizes withRelations withClauses withTargets siteOf isAt holds filled listInto ended targetsThen clausesThen relationsThen sizesThen envelopeFrom envelopeBytes checkEnvelope edges onPath isPlace legalBy stepBytes papersOf stepsOf stepAt endedProgram stepsThen programBy programBytes
+unfolding littleEnd bytesOf padded numbersFrom numbered firstFrom numberAt numberThat marked markAt versionAt headOf domainOf selectionAt joined joinAt clauseAt kindBytes samePlace placeAt placeBytes columnsOf columnAt columnBytes columnsThen relationAt relationBytes names kept keptColumns firstBare sizesOf relationsOf clausesOf targetsOf columnsIn withVersion withSizes withRelations withClauses withTargets siteOf isAt holds filled listInto ended targetsThen clausesThen relationsThen sizesThen envelopeFrom envelopeBytes checkEnvelope edges onPath isPlace legalBy stepBytes papersOf stepsOf stepAt endedProgram stepsThen programBy programBytes
 taken = refl
 
 whole-shape : shaped onNumber couponWeigh ≡ true

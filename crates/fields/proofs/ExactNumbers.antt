@@ -15,7 +15,7 @@ use Rattle.ground.proofs.ByteLaws.{bytes-length, read-written, written-read, st
 use Rattle.ground.proofs.TestLaws.{and-left, and-right, and-both}
 use Rattle.ground.proofs.OutcomeLaws.{pick-good}
 use Rattle.fields.specs.Refusals.{endsInside, beyondLimit, wrongMark, wrongVersion}
-use Rattle.fields.specs.Numbers.{numberAt, numberThat, between, numberIn, under, numberBelow, marked, markOf, versionAt, headOf}
+use Rattle.fields.specs.Numbers.{numberAt, numberThat, between, numberIn, under, numberBelow, marked, markAt, versionAt, headOf}
 use Rattle.fields.specs.Exact.{Exact, Spans}
 use Rattle.fields.proofs.NumberLaws.{at-good, between-true, between-in}
 use Rattle.fields.proofs.ExactReading.{chained, tested, restated, numbered-exact}
@@ -81,22 +81,21 @@ stands-marked (m ∷ letters) s at h =
     and-both (eq-eqb (getD s at 0) m (stands-one m s at (stands-left (m ∷ []) letters s at h)))
     (stands-marked letters s (at + 1) (stands-right (m ∷ []) letters s at h))
 
-pub mark-exact : (letters s : List ℕ) → Exact s 0 (markOf letters s) (λ l. l) (λ l. l ≡ letters)
-unfolding markOf
-mark-exact letters s =
+pub mark-exact : (letters s : List ℕ) (at : ℕ) → Exact s at (markAt letters s at) (λ l. l) (λ l. l ≡ letters)
+unfolding markAt
+mark-exact letters s at =
     record {
       sound = λ l p all e.
-          let (fits, is) = pick-good (leb (length letters) (length s)) _ endsInside 0 l p e in
-          let (stand, are) = pick-good (marked letters s 0) (good letters (length letters)) wrongMark 0 l p is in
+          let (fits, is) = pick-good (leb (at + length letters) (length s)) _ endsInside at l p e in
+          let (stand, are) = pick-good (marked letters s at) (good letters (at + length letters)) wrongMark at l p is in
           let same : l ≡ letters = cc in
-          let end : p ≡ length letters = cc in
-          let inside : 0 + length letters ≤ length s = omega (arith, leb-true (length letters) (length s) fits) in
-          (same, rw same (omega (arith, end), marked-stands letters s 0 inside stand));
+          let end : p ≡ at + length letters = cc in
+          (same, rw same (omega (arith, end), marked-stands letters s at (leb-true (at + length letters) (length s) fits) stand));
       complete = λ l p same spans inside.
-          let there : Spans letters s 0 p = rw same at spans in
-          let fits : leb (length letters) (length s) ≡ true = le-leb (length letters) (length s) (omega (arith, there .0)) in
-          let end : length letters ≡ p = omega (arith, there .0) in
-          rw (fits, stands-marked letters s 0 (there .1), end, same);
+          let there : Spans letters s at p = rw same at spans in
+          let fits : leb (at + length letters) (length s) ≡ true = le-leb (at + length letters) (length s) (omega (arith, there .0)) in
+          let end : at + length letters ≡ p = omega (arith, there .0) in
+          rw (fits, stands-marked letters s at (there .1), end, same);
     }
 
 pub version-exact : (newest : ℕ) → newest < 65536 → (s : List ℕ) (at : ℕ)
@@ -112,4 +111,4 @@ pub head-exact : (letters : List ℕ) (newest : ℕ) → newest < 65536 → (s :
 unfolding headOf
 head-exact letters newest small s =
     restated s 0 (λ _ _ _. refl) (λ v p h. h .1) (λ v p h. (refl, h))
-    (chained s 0 (λ _. letters) (mark-exact letters s) (λ _ p _. version-exact newest small s p) (λ a c q same _. sym same))
+    (chained s 0 (λ _. letters) (mark-exact letters s 0) (λ _ p _. version-exact newest small s p) (λ a c q same _. sym same))

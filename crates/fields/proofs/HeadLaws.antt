@@ -11,7 +11,7 @@ use borrow.Author.Tests.{lt-leb, le-leb, eq-eqb, ne-eqb}
 use Rattle.ground.specs.Tests.{pick}
 use Rattle.ground.specs.Outcome.{Outcome, next, verdictOf}
 use Rattle.ground.specs.Outcome.Outcome.{good, bad}
-use Rattle.fields.specs.Numbers.{numberAt, between, marked, markOf, markAt, versionAt, headOf, shownNumber, versionBy, headBy}
+use Rattle.fields.specs.Numbers.{numberAt, between, marked, markAt, versionAt, headOf, shownNumber, versionBy, headBy}
 use Rattle.ground.specs.declared.Verdict.{Verdict}
 use Rattle.ground.specs.declared.Verdict.the-variants.{Taken, Refused}
 use Rattle.fields.specs.declared.numbers.NumberRead.{NumberRead}
@@ -100,7 +100,7 @@ module _ (a b c newest : ℕ) (s : List ℕ) where
 
   pub head-read : (m : Verdict) (v r : NumberRead) → m ≡ verdictOf (markAt (a ∷ b ∷ c ∷ []) s 0) → v ≡ shownNumber (numberAt 2 s 3)
       → r ≡ headBy m newest v → r ≡ shownNumber (headOf (a ∷ b ∷ c ∷ []) newest s)
-  unfolding headOf markOf markAt
+  unfolding headOf markAt
   head-read m v r em ev er = er ∙ rw (em, ev) (by-mark (leb 3 (length s)) (marked (a ∷ b ∷ c ∷ []) s 0))
 
 -- ---- a version that was read is one that is taken
@@ -113,6 +113,6 @@ pub read-version : (letters : List ℕ) (newest : ℕ) (s : List ℕ) (r : Numbe
     → r ≡ Is v p → v ≤ newest
 unfolding headOf versionAt
 read-version letters newest s r v p e g =
-    let x = next-good (markOf letters s) _ v p (number-good (headOf letters newest s) r v p e g) in
+    let x = next-good (markAt letters s 0) _ v p (number-good (headOf letters newest s) r v p e g) in
     let y = next-good (numberAt 2 s (x .1)) _ v p (x .3) in
     version-by newest (x .1) v p (y .0) (y .1) (between 1 newest (y .0)) refl (y .3)

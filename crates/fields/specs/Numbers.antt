@@ -51,14 +51,7 @@ unfoldable pub marked : List ℕ → List ℕ → ℕ → Bool
 marked [] s at = true
 marked (m ∷ ms) s at = eqb (getD s at 0) m && marked ms s (at + 1)
 
--- a paper's mark: one field at its front
-unfoldable pub markOf : List ℕ → List ℕ → Outcome (List ℕ)
-markOf letters s =
-    pick (leb (length letters) (length s))
-    (pick (marked letters s 0) (good letters (length letters)) (bad wrongMark 0))
-    (bad endsInside 0)
-
--- the same of a mark at a position
+-- a mark is one field
 unfoldable pub markAt : List ℕ → List ℕ → ℕ → Outcome (List ℕ)
 markAt letters s at =
     pick (leb (at + length letters) (length s))
@@ -69,9 +62,9 @@ markAt letters s at =
 unfoldable pub versionAt : ℕ → List ℕ → ℕ → Outcome ℕ
 versionAt newest s at = next (numberAt 2 s at) (λ v p. pick (between 1 newest v) (good v p) (bad wrongVersion at))
 
--- the mark and the version
+-- at the front of a paper: the mark and the version
 unfoldable pub headOf : List ℕ → ℕ → List ℕ → Outcome ℕ
-headOf letters newest s = next (markOf letters s) (λ _ p. versionAt newest s p)
+headOf letters newest s = next (markAt letters s 0) (λ _ p. versionAt newest s p)
 
 -- what the functions answer
 unfoldable pub shownNumber : Outcome ℕ → NumberRead

@@ -24,7 +24,7 @@ use Rattle.ground.specs.Outcome.Outcome.{good, bad}
 use Rattle.planner.proofs.Figures.{E1, fallen}
 use Rattle.ground.specs.Outcome.{numbered}
 use Rattle.ground.specs.Bytes.{littleEnd, bytesOf}
-use Rattle.fields.specs.Numbers.{numberAt, numberThat, marked, markOf, versionAt, headOf}
+use Rattle.fields.specs.Numbers.{numberAt, numberThat, marked, markAt, versionAt, headOf}
 use Rattle.entries.specs.Relations.{columnsOf, columnAt, columnBytes, columnsThen, relationAt, relationBytes}
 use Rattle.entries.specs.Places.{placeAt, placeBytes}
 use Rattle.entries.specs.Clauses.{selectionAt, joined, joinAt, clauseAt, kindBytes}
@@ -49,7 +49,7 @@ refusal-listed = refl
 
 -- the same from its bytes on
 figure-read : readEnvelope (envelopeBytes E1) ≡ good E1 195
-unfolding numbered padded numbersFrom littleEnd bytesOf firstFrom numberAt numberThat marked markOf versionAt headOf samePlace placeAt placeBytes columnsOf columnAt columnBytes columnsThen relationAt relationBytes domainOf selectionAt joined joinAt clauseAt kindBytes sizesOf relationsOf clausesOf targetsOf columnsIn withVersion withSizes withRelations withClauses withTargets names kept keptColumns firstBare ended filled listInto targetsThen clausesThen relationsThen sizesThen envelopeFrom envelopeBytes
+unfolding numbered padded numbersFrom littleEnd bytesOf firstFrom numberAt numberThat marked markAt versionAt headOf samePlace placeAt placeBytes columnsOf columnAt columnBytes columnsThen relationAt relationBytes domainOf selectionAt joined joinAt clauseAt kindBytes sizesOf relationsOf clausesOf targetsOf columnsIn withVersion withSizes withRelations withClauses withTargets names kept keptColumns firstBare ended filled listInto targetsThen clausesThen relationsThen sizesThen envelopeFrom envelopeBytes
 figure-read = refl
 
 pub figure-printed : listing (planOf (readEnvelope (envelopeBytes E1)))

@@ -11,7 +11,7 @@ use Rattle.ground.specs.Outcome.Outcome.{good}
 use Rattle.ground.specs.Bytes.{littleEnd, bytesOf}
 use Rattle.ground.specs.Searching.{firstFrom}
 use Rattle.ground.specs.Rising.{insert, rising}
-use Rattle.fields.specs.Numbers.{numberAt, numberThat, marked, markOf, versionAt, headOf}
+use Rattle.fields.specs.Numbers.{numberAt, numberThat, marked, markAt, versionAt, headOf}
 use Rattle.entries.specs.Relations.{relationWith, columnsOf, columnAt, columnBytes, columnsThen, relationAt, relationBytes}
 use Rattle.entries.specs.Places.{place, samePlace, placeAt, placeBytes}
 use Rattle.entries.specs.Clauses.{domainOf, selectionAt, joined, joinAt, clauseAt, kindBytes}
@@ -109,7 +109,7 @@ abbrev examples : List Figure
 examples = ends ++ heads ++ limits ++ rules ++ structs ++ paths ++ answers
 
 pub examples-hold : Hold examples
-unfolding numbered padded numbersFrom littleEnd bytesOf firstFrom insert rising numberAt numberThat marked markOf versionAt headOf samePlace placeAt placeBytes columnsOf columnAt columnBytes columnsThen relationAt relationBytes domainOf selectionAt joined joinAt clauseAt kindBytes sizesOf relationsOf clausesOf targetsOf columnsIn withVersion withSizes withRelations withClauses withTargets siteOf isAt holds names kept keptColumns firstBare ended filled listInto targetsThen clausesThen relationsThen sizesThen envelopeFrom envelopeBytes checkEnvelope edges onPath places isPlace legalBy legalSteps stepBytes constantsOf selectionsBy equalitiesBy stepsOf stepAt endedProgram stepsThen programBy readProgram programBytes checkProgram rowsIn tablesIn tablesOf meetsAll answerOn answerRows
+unfolding numbered padded numbersFrom littleEnd bytesOf firstFrom insert rising numberAt numberThat marked markAt versionAt headOf samePlace placeAt placeBytes columnsOf columnAt columnBytes columnsThen relationAt relationBytes domainOf selectionAt joined joinAt clauseAt kindBytes sizesOf relationsOf clausesOf targetsOf columnsIn withVersion withSizes withRelations withClauses withTargets siteOf isAt holds names kept keptColumns firstBare ended filled listInto targetsThen clausesThen relationsThen sizesThen envelopeFrom envelopeBytes checkEnvelope edges onPath places isPlace legalBy legalSteps stepBytes constantsOf selectionsBy equalitiesBy stepsOf stepAt endedProgram stepsThen programBy readProgram programBytes checkProgram rowsIn tablesIn tablesOf meetsAll answerOn answerRows
 examples-hold = refl
 
 abbrev steps : List Step
@@ -122,5 +122,5 @@ pub structs-hold :
     × (checkEnvelope (stuffed 1 2 2 1 1) ≡ good smallAsked 54) × (tidy (stuffed 1 2 2 1 1) ≡ smallAsked)
     × (readProgram smallAsked (program 2 (there ++ back)) ≡ good (programWith 1 steps) 15)
     × (programBytes (programWith 1 steps) ≡ program 2 (there ++ back))
-unfolding numbered padded numbersFrom littleEnd bytesOf firstFrom numberAt numberThat marked markOf versionAt headOf samePlace placeAt placeBytes columnsOf columnAt columnBytes columnsThen relationAt relationBytes domainOf selectionAt joined joinAt clauseAt kindBytes sizesOf relationsOf clausesOf targetsOf columnsIn withVersion withSizes withRelations withClauses withTargets siteOf isAt holds names kept keptColumns firstBare ended filled listInto targetsThen clausesThen relationsThen sizesThen envelopeFrom envelopeBytes checkEnvelope edges onPath isPlace legalBy stepBytes stepsOf stepAt endedProgram stepsThen programBy readProgram programBytes tidyRelation tidy
+unfolding numbered padded numbersFrom littleEnd bytesOf firstFrom numberAt numberThat marked markAt versionAt headOf samePlace placeAt placeBytes columnsOf columnAt columnBytes columnsThen relationAt relationBytes domainOf selectionAt joined joinAt clauseAt kindBytes sizesOf relationsOf clausesOf targetsOf columnsIn withVersion withSizes withRelations withClauses withTargets siteOf isAt holds names kept keptColumns firstBare ended filled listInto targetsThen clausesThen relationsThen sizesThen envelopeFrom envelopeBytes checkEnvelope edges onPath isPlace legalBy stepBytes stepsOf stepAt endedProgram stepsThen programBy readProgram programBytes tidyRelation tidy
 structs-hold = (refl, refl, refl, refl, refl, refl, refl)

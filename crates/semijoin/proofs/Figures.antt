@@ -9,7 +9,7 @@ use Rattle.ground.specs.Outcome.{numbered, nextOf}
 use Rattle.ground.specs.Bytes.{littleEnd, bytesOf}
 use Rattle.ground.specs.Searching.{firstFrom}
 use Rattle.ground.specs.Rising.{insert, rising}
-use Rattle.fields.specs.Numbers.{numberAt, numberThat, marked, markOf, versionAt, headOf}
+use Rattle.fields.specs.Numbers.{numberAt, numberThat, marked, markAt, versionAt, headOf}
 use Rattle.entries.specs.Relations.{relationWith, columnsOf, columnAt, columnBytes, columnsThen, relationAt, relationBytes}
 use Rattle.entries.specs.Places.{place, samePlace, placeAt, placeBytes}
 use Rattle.entries.specs.Clauses.{clause, domainOf, selectionAt, joined, joinAt, clauseAt, kindBytes}
@@ -93,5 +93,5 @@ figures =
     ∷ []
 
 pub figures-hold : Hold figures
-unfolding numbered padded numbersFrom littleEnd bytesOf firstFrom insert rising numberAt numberThat marked markOf versionAt headOf samePlace placeAt placeBytes columnsOf columnAt columnBytes columnsThen relationAt relationBytes domainOf selectionAt joined joinAt clauseAt kindBytes sizesOf relationsOf clausesOf targetsOf columnsIn withVersion withSizes withRelations withClauses withTargets siteOf isAt holds names kept keptColumns firstBare ended filled listInto targetsThen clausesThen relationsThen sizesThen envelopeFrom envelopeBytes checkEnvelope edges onPath isPlace legalBy stepBytes constantsOf selectionsBy equalitiesBy stepsOf stepAt endedProgram stepsThen programBy readProgram programBytes checkProgram papersOf rowsIn tablesIn tablesOf meetsAll answerOn answerRows countIn wordsBefore rowsBefore firstWord rowsOver marksOver rowsAt marksAt keptOf keptRows sieved sievedOver reducedBy removedOf removedOver removedBy valuesOver valuesOf risingValues stepped nextOf shaped passesBy passes openingMark openedAt opened openedIn steppedAll runMarks runChecked runOutcome marksAfter
+unfolding numbered padded numbersFrom littleEnd bytesOf firstFrom insert rising numberAt numberThat marked markAt versionAt headOf samePlace placeAt placeBytes columnsOf columnAt columnBytes columnsThen relationAt relationBytes domainOf selectionAt joined joinAt clauseAt kindBytes sizesOf relationsOf clausesOf targetsOf columnsIn withVersion withSizes withRelations withClauses withTargets siteOf isAt holds names kept keptColumns firstBare ended filled listInto targetsThen clausesThen relationsThen sizesThen envelopeFrom envelopeBytes checkEnvelope edges onPath isPlace legalBy stepBytes constantsOf selectionsBy equalitiesBy stepsOf stepAt endedProgram stepsThen programBy readProgram programBytes checkProgram papersOf rowsIn tablesIn tablesOf meetsAll answerOn answerRows countIn wordsBefore rowsBefore firstWord rowsOver marksOver rowsAt marksAt keptOf keptRows sieved sievedOver reducedBy removedOf removedOver removedBy valuesOver valuesOf risingValues stepped nextOf shaped passesBy passes openingMark openedAt opened openedIn steppedAll runMarks runChecked runOutcome marksAfter
 figures-hold = refl
