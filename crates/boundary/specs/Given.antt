@@ -13,7 +13,7 @@ use Rattle.papers.specs.Programs.{readProgram}
 use Rattle.papers.specs.declared.checks.Papers.{Papers}
 use Rattle.ends.specs.Ends.{noEnd}
 use Rattle.ends.specs.declared.ends.End.{End}
-use Rattle.boundary.specs.States.{unclear, endOf}
+use Rattle.boundary.specs.States.{stateLength, unclear, endOf}
 use Rattle.boundary.specs.declared.given.EndRead.{EndRead}
 
 unfoldable pub papersIn : List ℕ → List ℕ → Outcome Papers
@@ -24,7 +24,7 @@ papersIn e p =
 
 unfoldable pub endIn : List ℕ → List ℕ → List ℕ → Outcome End
 endIn e p s =
-    judged (test (ltb (length s) 19) tooShort 0 ∷ [])
+    judged (test (ltb (length s) stateLength) tooShort 0 ∷ [])
     (next (papersIn e p)
     (λ q at. judged (test (unclear s) beyondLimit 0 ∷ []) (good (endOf q s) at)))
 

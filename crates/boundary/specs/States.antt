@@ -13,6 +13,25 @@ use Rattle.papers.specs.declared.checks.Papers.{Papers}
 use Rattle.ends.specs.declared.ends.End.{End}
 use Rattle.boundary.specs.Answers.{asWord}
 
+-- where the words stand, and how many there are
+abbrev pub siteAt : ℕ
+siteAt = 0
+
+abbrev pub runAt : ℕ
+runAt = 1
+
+abbrev pub usedAt : ℕ
+usedAt = 2
+
+abbrev pub appliedAt : ℕ
+appliedAt = 3
+
+abbrev pub arrivedAt : ℕ
+arrivedAt = 11
+
+abbrev pub stateLength : ℕ
+stateLength = 19
+
 -- the numbers of the eight places for relations
 abbrev pub zeroToSeven : List ℕ
 zeroToSeven = 0 ∷ 1 ∷ 2 ∷ 3 ∷ 4 ∷ 5 ∷ 6 ∷ 7 ∷ []
@@ -20,14 +39,14 @@ zeroToSeven = 0 ∷ 1 ∷ 2 ∷ 3 ∷ 4 ∷ 5 ∷ 6 ∷ 7 ∷ []
 -- ---- read
 
 unfoldable pub appliedIn : List ℕ → List ℕ
-appliedIn s = map (λ r. getD s (3 + r) 0) zeroToSeven
+appliedIn s = map (λ r. getD s (appliedAt + r) 0) zeroToSeven
 
 unfoldable pub arrivedIn : List ℕ → List Bool
-arrivedIn s = map (λ r. eqb (getD s (11 + r) 0) 1) zeroToSeven
+arrivedIn s = map (λ r. eqb (getD s (arrivedAt + r) 0) 1) zeroToSeven
 
 -- an arrived word that is neither 0 nor 1; one of the eight
 unfoldable pub unclearAt : List ℕ → ℕ → Bool
-unclearAt s r = ltb 1 (getD s (11 + r) 0)
+unclearAt s r = ltb 1 (getD s (arrivedAt + r) 0)
 
 unfoldable pub unclear : List ℕ → Bool
 unclear s = any (unclearAt s) (below 8)
@@ -38,11 +57,11 @@ endOf q s =
     record {
       envelope = q .envelope;
       program = q .program;
-      site = getD s 0 0;
-      run = getD s 1 0;
+      site = getD s siteAt 0;
+      run = getD s runAt 0;
       applied = appliedIn s;
       arrived = arrivedIn s;
-      used = getD s 2 0;
+      used = getD s usedAt 0;
     }
 
 -- ---- written
@@ -52,7 +71,7 @@ bitOf b = pick b 1 0
 
 -- the applied word of a relation: behind the last one it stays
 unfoldable pub appliedWord : ℕ → List ℕ → List ℕ → ℕ → ℕ
-appliedWord relations applied s r = pick (ltb r relations) (getD applied r 0) (getD s (3 + r) 0)
+appliedWord relations applied s r = pick (ltb r relations) (getD applied r 0) (getD s (appliedAt + r) 0)
 
 unfoldable pub stateWords : End → List ℕ → List ℕ
 stateWords x s =

@@ -16,13 +16,13 @@ use Rattle.station.specs.Making.{makeValuesOf, makeRowsOf}
 use Rattle.station.specs.Receiving.{Held, receiveOf}
 use Rattle.ends.specs.declared.ends.End.{End}
 use Rattle.answerer.specs.Assembly.{assembledOutcome}
-use Rattle.boundary.specs.States.{stateAfter}
+use Rattle.boundary.specs.States.{stateLength, stateAfter}
 use Rattle.boundary.specs.Given.{papersIn, endIn}
 
 -- opening, with papers that were read: a state that is too short is the last refusal
 unfoldable pub openGiven : Envelope → Program → ℕ → ℕ → List ℕ → List ℕ → List ℕ → Outcome Marked
 openGiven e p site run words marks s =
-    next (openOf e p site run words marks) (λ m at. judged (test (ltb (length s) 19) tooShort 0 ∷ []) (good m at))
+    next (openOf e p site run words marks) (λ m at. judged (test (ltb (length s) stateLength) tooShort 0 ∷ []) (good m at))
 
 unfoldable pub openFrom : List ℕ → List ℕ → ℕ → ℕ → List ℕ → List ℕ → List ℕ → Outcome Marked
 openFrom e p site run words marks s =

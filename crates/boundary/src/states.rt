@@ -4,16 +4,23 @@ use papers::checks::Papers;
 ghost use mathlib.Core.Path.{_≡_};
 ghost use Prim.Native.Nat.{_≤_, _<_, min};
 ghost use lib.ListN.{length};
-ghost use Rattle.boundary.specs.States.{unclear, endOf, bitOf, appliedWord, stateWords, stateAfter};
+ghost use Rattle.boundary.specs.States.{stateLength, unclear, endOf, bitOf, appliedWord, stateWords, stateAfter};
+
+// How many words there are, and where those of relations begin; site, run and used stand before them.
+pub(crate) const LENGTH: usize = 19;
+
+const APPLIED: usize = 3;
+
+const ARRIVED: usize = 11;
 
 // Whether an arrived word is neither 0 nor 1.
 pub(crate) fn is_unclear(state: &[u32]) -> bool
-    requires { ⌜ 19 ≤ length (now state) ⌝ }
+    requires { ⌜ stateLength ≤ length (now state) ⌝ }
     ensures { λ r. ⌜ r ≡ unclear (now (state .entry)) ⌝ }
 {
     let mut relation: usize = 0;
     while relation < 8 {
-        if 1 < state[11 + relation] {
+        if 1 < state[ARRIVED + relation] {
             return true;
         }
         relation += 1;
@@ -29,7 +36,7 @@ fn wide(word: u32) -> usize
 
 // The end that the papers and the words are.
 pub(crate) fn end_of(papers: Papers, state: &[u32]) -> End
-    requires { ⌜ 19 ≤ length (now state) ⌝ }
+    requires { ⌜ stateLength ≤ length (now state) ⌝ }
     ensures { λ r. ⌜ r ≡ endOf papers (now (state .entry)) ⌝ }
 {
     let envelope = papers.envelope;
@@ -73,18 +80,18 @@ fn bit_of(mark: bool) -> u32
 
 // The applied word of a relation: behind the last one it stays as it is.
 fn applied_word(relations: usize, applied: [u32; 8], state: &[u32], relation: usize) -> u32
-    requires { ⌜ (19 ≤ length (now state)) × (relation < 8) ⌝ }
+    requires { ⌜ (stateLength ≤ length (now state)) × (relation < 8) ⌝ }
     ensures { λ r. ⌜ r ≡ appliedWord relations applied (now (state .entry)) relation ⌝ }
 {
     if relation < relations {
         applied[relation]
     } else {
-        state[3 + relation]
+        state[APPLIED + relation]
     }
 }
 
 fn words_of(end: End, state: &[u32]) -> [u32; 19]
-    requires { ⌜ 19 ≤ length (now state) ⌝ }
+    requires { ⌜ stateLength ≤ length (now state) ⌝ }
     ensures { λ r. ⌜ r ≡ stateWords end (now (state .entry)) ⌝ }
 {
     let envelope = end.envelope;
@@ -116,12 +123,12 @@ fn words_of(end: End, state: &[u32]) -> [u32; 19]
 
 // The state afterwards: its first 19 words.
 pub(crate) fn put_state(end: End, state: &mut [u32])
-    requires { ⌜ 19 ≤ length (now state) ⌝ }
+    requires { ⌜ stateLength ≤ length (now state) ⌝ }
     ensures { λ r. ⌜ now (state .exit) ≡ stateAfter end (now (state .entry)) ⌝ }
 {
     let words = words_of(end, state);
     let mut i: usize = 0;
-    while i < 19 {
+    while i < LENGTH {
         state[i] = words[i];
         i += 1;
     }

@@ -14,6 +14,7 @@ ghost use Rattle.station.specs.Making.{shownMade, madeIn};
 ghost use Rattle.station.specs.Receiving.{receivedMarks, receivedStore};
 ghost use Rattle.answerer.specs.Answer.{answeredOf, answeredIn};
 ghost use Rattle.boundary.specs.Answers.{verdictWord, madeWord, answeredWord};
+ghost use Rattle.boundary.specs.States.{stateLength};
 ghost use Rattle.boundary.specs.Stations.{
   openGiven,
   openFrom,
@@ -61,7 +62,7 @@ fn open_given(
 ) -> Verdict
     ensures { λ r. ⌜ (r ≡ verdictOf (openGiven envelope program site run (now (tables .entry)) (now (marks .entry)) (now (state .entry)))) × (now (marks .exit) ≡ openedMarks (now (marks .entry)) (openGiven envelope program site run (now (tables .entry)) (now (marks .entry)) (now (state .entry)))) × (now (state .exit) ≡ openedState (now (state .entry)) (openGiven envelope program site run (now (tables .entry)) (now (marks .entry)) (now (state .entry)))) ⌝ }
 {
-    if state.len() < 19 {
+    if state.len() < crate::states::LENGTH {
         return refuse_opening(envelope, program, site, run, tables);
     }
     let opened = station::opening::open(envelope, program, site, run, tables, marks);
@@ -162,7 +163,7 @@ fn receive_given(
     store: &mut [u32],
     message: &[u32],
 ) -> Verdict
-    requires { ⌜ 19 ≤ length (now state) ⌝ }
+    requires { ⌜ stateLength ≤ length (now state) ⌝ }
     ensures { λ r. ⌜ (r ≡ verdictOf (receiveGiven end (now (tables .entry)) (now (marks .entry)) (now (store .entry)) (now (message .entry)))) × (now (state .exit) ≡ receivedState (now (state .entry)) (receiveGiven end (now (tables .entry)) (now (marks .entry)) (now (store .entry)) (now (message .entry)))) × (now (marks .exit) ≡ receivedMarks (now (marks .entry)) (receiveGiven end (now (tables .entry)) (now (marks .entry)) (now (store .entry)) (now (message .entry)))) × (now (store .exit) ≡ receivedStore (now (store .entry)) (receiveGiven end (now (tables .entry)) (now (marks .entry)) (now (store .entry)) (now (message .entry)))) ⌝ }
 {
     if 4294967295 < store.len() {

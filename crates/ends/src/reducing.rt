@@ -16,7 +16,7 @@ pub enum Missing {
 
 // A search through the steps for the next one of a relation: how many of its steps are still passed over, the number that a step must
 // be below to count, and the number of the step that was found.
-pub struct Search {
+struct Search {
     pub relation: u8,
     pub skip: u32,
     pub end: usize,
