@@ -1,14 +1,17 @@
-// Reads a script of calls on standard input, performs each and writes its outcome to standard output, all as 32-bit words, the
-// low byte first. A call is its number and its arguments in order: a number is one word; a slice is its length and its elements,
-// one word each. An outcome is the number and the value of the answer, then each slice that was lent for writing, as it is
-// afterwards. Slices have up to 40,960 elements. Input that ends between two calls ends the program; a script that is damaged
-// gets one line on standard error.
+// Performs a script of the boundary's calls, from standard input, and writes the outcome of each to standard output.
+// input reads the script's words and slices; paper_calls and end_calls perform the calls; output writes what comes of them.
+// Below lies boundary, and nothing lies above. bin/compare holds the outcomes against those of the second program.
 mod end_calls;
 mod input;
 mod output;
 mod paper_calls;
 
 use input::WordRead;
+
+// A script and its outcomes are 32-bit words, the low byte first. A call is its number and its arguments in order: a number is one
+// word; a slice is its length and its elements, one word each. An outcome is the number and the value of the answer, then each
+// slice that was lent for writing, as it is afterwards. Slices have up to 40,960 elements. Input that ends between two calls ends
+// the program; a script that is damaged gets one line on standard error.
 
 // One call by its number; false where the script is damaged.
 fn perform(

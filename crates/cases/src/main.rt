@@ -1,5 +1,6 @@
-// Papers at their limits, run: each line that is printed is how one paper is answered, the refusals 1 to 9 with their
-// positions among them. The small envelope below is taken; each case changes it in one place.
+// Papers at their limits, of 01's "Figures to check" and "Numbers we refuse by", run: each line is how one paper is answered.
+// The small envelope below is taken, and each case changes it in one place; refusals 1 to 9, with their positions, are among them.
+// Below lies papers, and nothing lies above. What is printed is compared with the file stdout of this crate.
 use contents::envelope::Envelope;
 use entries::places::Place;
 use fields::puts::Written;

@@ -1,4 +1,6 @@
--- The demands hold.
+-- DemandOneLaws: demand 1 holds, by NumberLaws, PaperLaws, StructLaws, StructPapers and AnswerNumbers. DemandTwoLaws: demand 2.
+-- DemandThreeLaws: demand 3, by what stays in every state (Sound, Lower, Upper, Room). OrderLaws: in order every call is taken.
+-- The Unique files: each contract determines its result. Excluded: what 01 excludes by name. Figures, TwoStations: values computed.
 pub mod NumberLaws
 pub mod PaperLaws
 pub mod StructLaws

@@ -1,6 +1,6 @@
--- The demands as statements. DemandOne has what each call may refuse by and that a refusal leaves everything; DemandTwo what is legal,
--- taken, planned, kept and answered; Link the stations and the link between them as demand 3 has them, DemandThree what is
--- promised of every history of theirs, and Orderly that something happens.
+-- The demands as statements. DemandOne: what each call may refuse by, and that a refusal leaves everything. DemandTwo: what is legal,
+-- taken, planned, kept and answered. Link: the stations and the link between them. DemandThree: what holds of each history of theirs.
+-- Orderly: that something happens. Words has the names that these are made of. Below lie all libraries, and nothing lies above.
 pub mod Words
 pub mod DemandOne
 pub mod DemandTwo

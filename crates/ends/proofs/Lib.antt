@@ -1,5 +1,6 @@
--- The laws of ends, of messages and of a relation's steps, file by file under the names of specs/; Sound is of ends that are
--- sound by their own papers.
+-- The laws of specs/, under its names; MessageCodeLaws are those of Messages that only returns of functions cite.
+-- SoundLaws: an end that is sound by its own papers. CountingLaws: a loop that counts. Lends: an array of structs lent as a slice.
+-- They stand on the laws of tables and papers; those of station and answerer stand on them.
 pub mod CountingLaws
 pub mod ReducingLaws
 pub mod SearchingLaws

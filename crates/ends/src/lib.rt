@@ -1,5 +1,6 @@
-// What an end remembers of a run and when it is sound, the words of the messages between ends, and which steps of a relation
-// an end has applied. The calls that open an end, make and receive are in crate station.
+// What the calls of 01's "Station ends" are made of: an end, the words of messages, and which steps of a relation were applied.
+// ends: what an end remembers, and when it is sound. messages: a message's words. reducing: a relation's steps in program order.
+// Below lie tables and papers. station, above, opens ends, makes messages and receives them; answerer answers from an end.
 pub mod ends;
 pub mod messages;
 pub mod reducing;

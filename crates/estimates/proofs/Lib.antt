@@ -1,4 +1,6 @@
--- The laws of the estimates; those whose name has Code in it are what the functions go by.
+-- The laws of specs/, under its names: by ProfileLaws and CostLaws every number has a bound, by EstimateLaws the lines add up.
+-- Code in a name: what functions go by; Table is of loops, Bound, Step and Local of profiles, Spending and Estimator of programs.
+-- DivisionLaws and ShortLaws hold whether division rounds down or up: what is proved by them alone stays where the rounding changes.
 pub mod DivisionLaws
 pub mod ShortLaws
 pub mod ProfileLaws

@@ -1,7 +1,6 @@
--- 01's "Estimates". Division and Short have the two formulas that everything rounds and shrinks by; Columns what an envelope
--- says of columns; Profile what operations do to it; Costs what transfers cost; Kind what a kind of estimate says and the
--- total by it; Estimate the formulas of 01 put in, and what a given program is expected to cost; Ready what functions behind
--- the checks go by.
+-- 01's "Estimates": Division (rounding) and Short (Y), Columns (widths, domains), Profile (what operations leave and bring), Costs,
+-- Kind (any kind of estimate, and its total), Estimate (the formulas of 01 put in, and what a given program is expected to cost).
+-- Ready is what functions behind the checks go by, so that no number passes 64 bits. Below lies papers, above the planner.
 pub mod Division
 pub mod Short
 pub mod Columns

@@ -1,5 +1,6 @@
--- The fields of a paper, as 01's "Papers on the wire" and "Numbers we refuse by" have them: numbers little end first,
--- within their limits, the mark and the version, and the refusals by name. Exact says what reading what is written means.
+-- The fields of a paper, as 01's "Papers on the wire" and "Numbers we refuse by" have them.
+-- Refusals has the refusals by name; Numbers how numbers, mark and version are read; Puts what is put into a lent buffer.
+-- Exact says what it means to read exactly what is written. Below lies ground; entries and papers are defined with these.
 pub mod Refusals
 pub mod Numbers
 pub mod Puts

@@ -1,4 +1,6 @@
--- The laws of programs, of both papers together, and that zeros in places not in use change nothing; examples of papers.
+-- The laws of programs: ProgramLaws, ProgramCodeLaws and, of writing them, PutLaws; CheckLaws is of both papers at once.
+-- ExactPrograms, ExactChecks: a program is taken exactly where it is acceptable. TidyLaws: zeros not in use change nothing.
+-- Examples computes from the definitions: papers at their limits (ExamplePapers), implied clauses, the answers of the same day.
 pub mod ProgramLaws
 pub mod PutLaws
 pub mod ProgramCodeLaws

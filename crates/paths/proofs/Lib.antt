@@ -1,5 +1,6 @@
--- The laws of what an envelope says: paths, what they mean on tables, labels, legal steps and how many there are, implied
--- clauses.
+-- The laws of specs/, under its names; those that only returns of functions cite have Code in theirs (EqualCodeLaws: of Implied).
+-- StepCountLaws: 156 steps hold every legal one. GatheringLaws: a loop that gathers lists. CheckedImpliedLaws: Implied of structs.
+-- By LabelLaws, labels are equal exactly where a path joins two nodes; programs and the planner go by labels.
 pub mod PathLaws
 pub mod MeaningLaws
 pub mod LabelLaws

@@ -1,5 +1,6 @@
--- The laws of the planner, and the figures of 01 that are estimates; those whose name has Code in it are what the functions
--- go by.
+-- The laws of the planner: ChoiceLaws and DropLaws over any kind of estimate, PlanLaws and PromiseLaws with the estimate of 01.
+-- Those with Code in their names are what functions go by, one file for each module of src/ but plans.
+-- Figures has the figures of 01 that are estimates, computed; demands gathers them with those on tables.
 pub mod Figures
 pub mod ChoiceLaws
 pub mod DropLaws

@@ -1,5 +1,6 @@
--- 01's "The planner". Choice has its points 2 to 5 over any kind of estimate, behind local operations; Plan puts the estimate of
--- 01 in, and its point 1 with it; Promise says what holds of what is handed out; Candidates and Numbers are steps and their numbers as the code holds them.
+-- 01's "The planner". Choice has points 2 to 5 over any kind of estimate; Plan puts the estimate of 01 in, and point 1 with it.
+-- Promise says what holds of what is handed out; Candidates and Numbers have steps, and numbers of steps, as the code holds them.
+-- Below lies estimates, which has the kinds of estimate; demands, above, says the promise of the calls that plan.
 pub mod Choice
 pub mod Plan
 pub mod Promise

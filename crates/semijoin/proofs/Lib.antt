@@ -1,5 +1,6 @@
--- The laws of the semi-join: what a step does to marks, what it promises, and that the answer is kept; and what each function
--- answers.
+-- The laws of the semi-join: MarkLaws and ReducedLaws of a step, LocalLaws, RunLaws; by AnswerLaws the answer stays as it is.
+-- PromiseLaws and CallLaws have the two values that the floors above go by. TidyLaws: zeros not in use change nothing.
+-- Figures: 01's figures on tables. Code in a name: what functions go by, Halving and Sieve in marks, Local, Run, Call in the calls.
 pub mod MarkLaws
 pub mod ReducedLaws
 pub mod LocalLaws

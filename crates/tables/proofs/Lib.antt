@@ -1,5 +1,6 @@
--- The laws of tables and marks: where things lie, what the shape says, which rows are kept; and what each function on them
--- answers.
+-- The laws of specs/, under its names; those that only returns of functions cite have Code in theirs (GatherCodeLaws: of Values).
+-- JudgedLaws: tests of tables and marks. TidyLaws: zeros not in use change nothing. CallLaws: what calls give, for the floors above.
+-- Examples computes shapes of tables and their limits. semijoin, ends and answerer are proved with these laws.
 pub mod OffsetLaws
 pub mod ShapeLaws
 pub mod JudgedLaws

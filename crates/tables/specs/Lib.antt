@@ -1,5 +1,6 @@
--- Tables and marks, as 01's "Papers on the wire" (tables) and "Station ends" (marks) have them: where a relation's words and marks
--- lie, whether tables are of an envelope's shape, one row's word and mark, the kept rows, and the values of a column in them.
+-- Tables and marks, as 01's "Papers on the wire" (tables) and "Station ends" (marks) have them, and refusals 10 and 11 of them.
+-- Offsets: where a relation lies. Shape: whether tables fit. Rows: one row, the kept rows. Values: a column's. Rising: rising lists.
+-- Below lies paths, where Meaning says what tables mean; semijoin, ends and answerer are defined with these.
 pub mod Offsets
 pub mod Shape
 pub mod Rows
