@@ -1,4 +1,4 @@
-// Papers given as bytes, and an end given as papers and words: read, or refused.
+// Papers given as bytes, and an end given as papers and words: read, or refused; and the two calls that read papers.
 use ends::ends::End;
 use fields::refusals;
 use ground::Verdict;

@@ -1,5 +1,4 @@
--- The laws of an envelope's parts that are in use: the columns of a relation, and that one part is where it was put.
--- Assumes nothing.
+-- The laws of an envelope's parts that are in use: a relation within the count, one past it, and the columns of each.
 use mathlib.Core.Path.{_≡_, ap, sym, _∙_}
 use Prim.Native.Nat.{ℕ, _≤_, _<_}
 use lib.ListN.{getD}

@@ -1,4 +1,4 @@
--- The laws of sites: what each return of the loop that looks for a site's relation answers.
+-- The laws of sites: what each return of the functions on a relation's site answers, and of the loop that looks for one there.
 use mathlib.Core.Path.{_≡_, ap, sym, _∙_}
 use mathlib.Core.Bool.{Bool, true, false}
 use mathlib.Core.List.{List}

@@ -1,4 +1,5 @@
--- An envelope and its parts: what its arrays have in use, and an envelope with one part replaced.
+-- "Domain count ..; sizes ..; relation count ..; clause count ..; clauses; target count ..; targets": an envelope and its parts, what
+-- its arrays have in use by these counts, and an envelope with one part replaced.
 use Prim.Native.Nat.{ℕ, min}
 use mathlib.Core.List.{List}
 use lib.ListN.{length, take, getD, replicate}

@@ -1,4 +1,4 @@
-// What an envelope has in use.
+// What an envelope has in use: the columns of a relation.
 use crate::envelope::Envelope;
 ghost use mathlib.Core.Path.{_≡_};
 ghost use Rattle.contents.specs.Parts.{columnsIn};

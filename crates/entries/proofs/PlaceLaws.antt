@@ -1,5 +1,4 @@
--- The laws of places: what a reading says of the outcome, and of a place that was read.
--- Assumes nothing.
+-- The laws of places: what a reading says of the outcome, of a place that was read, and each return of the functions on places.
 use mathlib.Core.Path.{_≡_, _∙_}
 use Prim.Native.Nat.{ℕ, _≤_, _<_}
 use native.Mathlib.Omega.{arith}

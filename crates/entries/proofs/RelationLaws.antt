@@ -1,5 +1,4 @@
 -- The laws of columns and relations: what a reading says of the outcome, and each return of the functions that read them.
--- Assumes nothing.
 use mathlib.Core.Path.{_≡_, ap, sym, _∙_}
 use Prim.Native.Nat.{ℕ, _+_, _≤_, _<_, min}
 use mathlib.Core.List.{List}

@@ -1,4 +1,4 @@
-// A column named by its relation: what clauses, targets and steps speak of.
+// A column named by its relation: what clauses, targets and steps speak of; and how many columns a relation has.
 use crate::relations::Relation;
 use fields::numbers::NumberRead;
 use fields::numbers::Width;

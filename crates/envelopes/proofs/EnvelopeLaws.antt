@@ -1,5 +1,4 @@
 -- The laws of an envelope's parts: a list of a kind read into an array, once for all four lists, and the envelope with it.
--- Assumes nothing.
 use mathlib.Core.Path.{_≡_, ap, sym, _∙_}
 use Prim.Native.Nat.{ℕ, _≤_, _<_}
 use mathlib.Core.List.{List}

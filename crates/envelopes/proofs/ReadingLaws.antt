@@ -1,6 +1,5 @@
 -- The laws of the whole envelope: each return of the functions that read it, from the last part to the first, and of those
 -- that check and write it.
--- Assumes nothing.
 use mathlib.Core.Path.{_≡_, refl, ap, sym, _∙_}
 use Prim.Native.Nat.{ℕ, _≤_, _<_}
 use native.Mathlib.Omega.{arith}

@@ -1,4 +1,4 @@
-// What a transfer costs: its size times the price from the sender's site to the receiver's.
+// What a transfer costs: its size times the price from the sender's site to the receiver's; and what a step brings.
 use crate::profiles::Profile;
 use contents::envelope::Envelope;
 use paths::steps::Step;

@@ -1,5 +1,5 @@
-// A profile: the estimated rows of each relation and the distinct count of each column, and the width of each relation.
-// What goes through Y asks that no row and no count is above 1,000,000, so that no sum wraps.
+// A profile: the estimated rows of each relation, the distinct count of each column and the width of each relation; and what a
+// selection or a step leaves of it. What goes through Y asks that no row and no count is above 1,000,000, so that no sum wraps.
 use contents::envelope::Envelope;
 use entries::places::Place;
 use entries::relations::Column;

@@ -1,5 +1,4 @@
 -- The laws of a paper's mark and version: one for each return of the functions that read them.
--- Assumes nothing.
 use mathlib.Core.Path.{_≡_, refl, sym, _∙_}
 use Prim.Native.Nat.{ℕ, _+_, _-_, _≤_, _<_}
 use native.Mathlib.Omega.{arith}

@@ -1,5 +1,4 @@
 -- The laws of numbers at a position: one for each return of the functions that read them, and what an answer says.
--- Assumes nothing.
 use mathlib.Core.Path.{_≡_, refl, ap, sym, _∙_}
 use Prim.Native.Nat.{ℕ, _+_, _*_, _≤_, _<_}
 use native.Mathlib.Nat.{mul-zero, add-zero, add-assoc}

@@ -1,4 +1,4 @@
--- Sums over the numbers below another, as the offsets of relations are made of them.
+-- Sums over the numbers below another: one summand more, and that a summand with those before it is within the sum.
 use mathlib.Core.Path.{_≡_, refl, ap, _∙_}
 use mathlib.Core.List.{[], _∷_, map}
 use Prim.Native.Nat.{ℕ, zero, suc, _+_, _≤_, _<_}

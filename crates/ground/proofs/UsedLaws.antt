@@ -1,5 +1,4 @@
 -- An array of which a count says how many elements are in use, which may be more than it has: looking through them.
--- Assumes nothing.
 use mathlib.Core.Path.{_≡_, ap, sym, _∙_}
 use mathlib.Core.Bool.{Bool, true, false}
 use mathlib.Core.List.{List}

@@ -1,6 +1,5 @@
 -- A loop that writes the elements of an array that are in use, each at most so long: where it stands and what it has
 -- written, also where the count is more than the array has.
--- Assumes nothing.
 use mathlib.Core.Path.{_≡_, refl, ap, _∙_}
 use mathlib.Core.List.{List}
 use Prim.Native.Nat.{ℕ, _+_, _*_, _≤_, _<_, min}

@@ -1,5 +1,5 @@
--- The planner's five points, over any kind of estimate: what the greedy program is and where it stops, the cheapest site,
--- what the fallback does to the total. Drops are in DropLaws.
+-- The planner's points 2, 3 and 5, over any kind of estimate: what the greedy program is and where it stops, the cheapest site,
+-- what the fallback does to the total. Point 4, drops, is in DropLaws.
 use mathlib.Core.Path.{_≡_, refl, sym, ap, _∙_}
 use mathlib.Core.Bool.{Bool, true, false, not, false≢true}
 use mathlib.Core.List.{List, [], _∷_, _++_, List·Memᴰ, List·Memᴰ·head, List·Memᴰ·tail, List·Memᴰ·cases-cons, List·Memᴰ·append-cases}

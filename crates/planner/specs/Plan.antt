@@ -1,5 +1,5 @@
--- The planner with the estimate of 01, from an envelope to the program with each step's benefit and cost in the program
--- handed out, the site, assembly, total and local-only total.
+-- "1. Local operations.", then points 2 to 5 of Choice, with the estimate of 01: from an envelope to the program with each step's
+-- benefit and cost in the program handed out, the site, assembly, total and local-only total.
 use mathlib.Core.List.{List}
 use Prim.Native.Nat.{ℕ}
 use lib.ListN.{length, replicate}
