@@ -1,9 +1,9 @@
--- The laws of specs/, under its names; MessageCodeLaws are those of Messages that only returns of functions cite.
+-- The laws of specs/, under its names; MessageCodeLaws and SearchingCodeLaws are those that only returns of functions cite.
 -- SoundLaws: an end that is sound by its own papers. CountingLaws: a loop that counts. Lends: an array of structs lent as a slice.
 -- They stand on the laws of tables and papers; those of station and answerer stand on them.
 pub mod CountingLaws
 pub mod ReducingLaws
-pub mod SearchingLaws
+pub mod SearchingCodeLaws
 pub mod Lends
 pub mod MessageLaws
 pub mod EndLaws

@@ -1,5 +1,5 @@
--- The laws of specs/, under its names; those that only returns of functions cite have Code in theirs (EqualCodeLaws: of Implied).
--- StepCountLaws: 156 steps hold every legal one. GatheringLaws: a loop that gathers lists. CheckedImpliedLaws: Implied of structs.
+-- The laws of specs/, under its names; Code in a name: only returns of functions cite them (Equal, CheckedImplied: of Implied).
+-- StepCountLaws: 156 steps hold every legal one. GatheringLaws: a loop that gathers lists one after the other.
 -- By LabelLaws, labels are equal exactly where a path joins two nodes; programs and the planner go by labels.
 pub mod PathLaws
 pub mod MeaningLaws
@@ -12,4 +12,4 @@ pub mod ImpliedLaws
 pub mod GatheringLaws
 pub mod ImpliedCodeLaws
 pub mod EqualCodeLaws
-pub mod CheckedImpliedLaws
+pub mod CheckedImpliedCodeLaws

@@ -1,4 +1,4 @@
-use Rattle.contents.proofs.KeptLaws.{kept-clause, kept-target}
+use Rattle.contents.proofs.KeptCodeLaws.{kept-clause, kept-target}
 use borrow.Author.Needs.{needs}
 use Rattle.contents.proofs.kept.is_kept.Statement.{statement}
 use Rattle.contents.proofs.kept.is_kept.Tie as tie

@@ -1,6 +1,6 @@
 use Prim.Native.Nat.{_-_}
 use mathlib.Core.Logic.{⊎-elim}
-use Rattle.contents.proofs.KeptLaws.{Keeping, keeping-start, keeping-room, keeping-yes, keeping-no, keeping-done}
+use Rattle.contents.proofs.KeptCodeLaws.{Keeping, keeping-start, keeping-room, keeping-yes, keeping-no, keeping-done}
 use borrow.Author.Needs.{needs}
 use native.Mathlib.Omega.{arith}
 use Rattle.contents.proofs.kept.kept_columns.Statement.{statement}

@@ -1,4 +1,4 @@
-use Rattle.contents.proofs.KeptLaws.{names-selection, names-left, names-right}
+use Rattle.contents.proofs.KeptCodeLaws.{names-selection, names-left, names-right}
 use borrow.Author.Needs.{needs}
 use Rattle.contents.proofs.kept.kind_names.Statement.{statement}
 use Rattle.contents.proofs.kept.kind_names.Tie as tie

@@ -1,7 +1,7 @@
 use Prim.Native.Nat.{_-_}
 use Rattle.ground.specs.Searching.{firstFrom}
 use Rattle.ground.proofs.SearchingLaws.{Looking, looking-start}
-use Rattle.contents.proofs.KeptLaws.{bare, bare-found, bare-passed, bare-none}
+use Rattle.contents.proofs.KeptCodeLaws.{bare, bare-found, bare-passed, bare-none}
 use borrow.Author.Needs.{needs}
 use native.Mathlib.Omega.{arith}
 use Rattle.contents.proofs.kept.lowest_bare.Statement.{statement}

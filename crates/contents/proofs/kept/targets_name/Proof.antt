@@ -2,7 +2,7 @@ use Rattle.entries.specs.Places.{noPlace}
 use Prim.Native.Nat.{_-_}
 use Rattle.ground.proofs.SearchingLaws.{someFrom, Looking, looking-start}
 use Rattle.ground.proofs.UsedLaws.{tested, used-found, used-passed, used-none}
-use Rattle.contents.proofs.KeptLaws.{targetNames}
+use Rattle.contents.proofs.KeptCodeLaws.{targetNames}
 use borrow.Author.Needs.{needs}
 use native.Mathlib.Omega.{arith}
 use Rattle.contents.proofs.kept.targets_name.Statement.{statement}

@@ -1,4 +1,4 @@
-use Rattle.ends.proofs.SearchingLaws.{missing-found, missing-none}
+use Rattle.ends.proofs.SearchingCodeLaws.{missing-found, missing-none}
 use borrow.Author.Needs.{needs}
 use Rattle.ends.proofs.reducing.missing_of.Statement.{statement}
 use Rattle.ends.proofs.reducing.missing_of.Tie as tie

@@ -1,4 +1,4 @@
-use Rattle.ends.proofs.SearchingLaws.{next-found}
+use Rattle.ends.proofs.SearchingCodeLaws.{next-found}
 use borrow.Author.Needs.{needs}
 use Rattle.ends.proofs.reducing.next_step.Statement.{statement}
 use Rattle.ends.proofs.reducing.next_step.Tie as tie

@@ -1,4 +1,4 @@
-use Rattle.ends.proofs.SearchingLaws.{seen-over, seen-end, seen-other, seen-one, seen-past}
+use Rattle.ends.proofs.SearchingCodeLaws.{seen-over, seen-end, seen-other, seen-one, seen-past}
 use borrow.Author.Needs.{needs}
 use Rattle.ends.proofs.reducing.seen.Statement.{statement}
 use Rattle.ends.proofs.reducing.seen.Tie as tie

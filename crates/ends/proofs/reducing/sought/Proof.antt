@@ -17,7 +17,7 @@ use Rattle.papers.specs.Programs.{noStep}
 use Rattle.ends.specs.Searching.{seenOf, soughtFrom}
 use Rattle.paths.specs.declared.steps.Step.{Step}
 use Rattle.ends.specs.declared.reducing.Search.{Search}
-use Rattle.ends.proofs.SearchingLaws.{sought-turn, sought-end}
+use Rattle.ends.proofs.SearchingCodeLaws.{sought-turn, sought-end}
 use Rattle.paths.proofs.steps.Step as T
 use Rattle.paths.proofs.steps.Step.Laws as T′
 use Rattle.ends.proofs.reducing.Search as Q

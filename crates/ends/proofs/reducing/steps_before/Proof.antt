@@ -1,4 +1,4 @@
-use Rattle.ends.proofs.SearchingLaws.{before-passed}
+use Rattle.ends.proofs.SearchingCodeLaws.{before-passed}
 use borrow.Author.Needs.{needs}
 use native.Mathlib.Omega.{arith}
 use Rattle.ends.proofs.reducing.steps_before.Statement.{statement}

@@ -1,5 +1,5 @@
 use native.Mathlib.Omega.{arith}
-use Rattle.entries.proofs.ClauseLaws.{domain-past, domain-is}
+use Rattle.entries.proofs.ClauseCodeLaws.{domain-past, domain-is}
 use borrow.Author.Needs.{needs}
 use Rattle.entries.proofs.clauses.domain_of.Statement.{statement}
 use Rattle.entries.proofs.clauses.domain_of.Tie as tie

@@ -1,4 +1,4 @@
-use Rattle.entries.proofs.ClauseLaws.{joined-two, joined-same, joined-is}
+use Rattle.entries.proofs.ClauseCodeLaws.{joined-two, joined-same, joined-is}
 use borrow.Author.Needs.{needs}
 use Rattle.entries.proofs.clauses.join_of.Statement.{statement}
 use Rattle.entries.proofs.clauses.join_of.Tie as tie

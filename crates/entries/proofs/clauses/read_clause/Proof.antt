@@ -1,4 +1,4 @@
-use Rattle.entries.proofs.ClauseLaws.{clause-1, clause-2, clause-3}
+use Rattle.entries.proofs.ClauseCodeLaws.{clause-1, clause-2, clause-3}
 use borrow.Author.Needs.{needs}
 use Rattle.entries.proofs.clauses.read_clause.Statement.{statement}
 use Rattle.entries.proofs.clauses.read_clause.Tie as tie

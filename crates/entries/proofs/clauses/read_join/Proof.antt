@@ -1,4 +1,4 @@
-use Rattle.entries.proofs.ClauseLaws.{join-1, join-2, join-3}
+use Rattle.entries.proofs.ClauseCodeLaws.{join-1, join-2, join-3}
 use borrow.Author.Needs.{needs}
 use Rattle.entries.proofs.clauses.read_join.Statement.{statement}
 use Rattle.entries.proofs.clauses.read_join.Tie as tie

@@ -1,4 +1,4 @@
-use Rattle.entries.proofs.ClauseLaws.{selection-1, selection-2, selection-3}
+use Rattle.entries.proofs.ClauseCodeLaws.{selection-1, selection-2, selection-3}
 use borrow.Author.Needs.{needs}
 use Rattle.entries.proofs.clauses.read_selection.Statement.{statement}
 use Rattle.entries.proofs.clauses.read_selection.Tie as tie

@@ -1,5 +1,5 @@
 use native.Mathlib.Omega.{arith}
-use Rattle.entries.proofs.RelationLaws.{past-column}
+use Rattle.entries.proofs.RelationCodeLaws.{past-column}
 use borrow.Author.Needs.{needs}
 use Rattle.entries.proofs.relations.column_at.Statement.{statement}
 use Rattle.entries.proofs.relations.column_at.Tie as tie

@@ -1,5 +1,5 @@
 use Rattle.fields.proofs.NumberLaws.{read-below, read-in}
-use Rattle.entries.proofs.RelationLaws.{column-1, column-2, column-3, column-4}
+use Rattle.entries.proofs.RelationCodeLaws.{column-1, column-2, column-3, column-4}
 use native.Mathlib.Omega.{arith}
 use borrow.Author.Needs.{needs}
 use Rattle.entries.proofs.relations.read_column.Statement.{statement}

@@ -1,5 +1,5 @@
 use Prim.Native.Nat.{_-_}
-use Rattle.entries.proofs.RelationLaws.{Columns, columns-start, columns-more, columns-bad, columns-done}
+use Rattle.entries.proofs.RelationCodeLaws.{Columns, columns-start, columns-more, columns-bad, columns-done}
 use borrow.Author.Needs.{needs}
 use native.Mathlib.Omega.{arith}
 use Rattle.entries.proofs.relations.read_columns.Statement.{statement}

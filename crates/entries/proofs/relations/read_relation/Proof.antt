@@ -1,5 +1,5 @@
 use Rattle.fields.proofs.NumberLaws.{read-in}
-use Rattle.entries.proofs.RelationLaws.{relation-1, relation-2, relation-3, relation-4}
+use Rattle.entries.proofs.RelationCodeLaws.{relation-1, relation-2, relation-3, relation-4}
 use native.Mathlib.Omega.{arith}
 use borrow.Author.Needs.{needs}
 use Rattle.entries.proofs.relations.read_relation.Statement.{statement}

@@ -1,4 +1,4 @@
-use Rattle.entries.proofs.RelationLaws.{relation-none}
+use Rattle.entries.proofs.RelationCodeLaws.{relation-none}
 use borrow.Author.Needs.{needs}
 use Rattle.entries.proofs.relations.refused_relation.Statement.{statement}
 use Rattle.entries.proofs.relations.refused_relation.Tie as tie

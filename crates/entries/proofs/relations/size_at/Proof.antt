@@ -1,5 +1,5 @@
 use native.Mathlib.Omega.{arith}
-use Rattle.entries.proofs.RelationLaws.{past-size}
+use Rattle.entries.proofs.RelationCodeLaws.{past-size}
 use borrow.Author.Needs.{needs}
 use Rattle.entries.proofs.relations.size_at.Statement.{statement}
 use Rattle.entries.proofs.relations.size_at.Tie as tie

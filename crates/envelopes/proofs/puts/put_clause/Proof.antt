@@ -1,4 +1,4 @@
-use Rattle.envelopes.proofs.PutLaws.{selection-long, put-selection, join-long, put-join}
+use Rattle.envelopes.proofs.PutCodeLaws.{selection-long, put-selection, join-long, put-join}
 use borrow.Author.Needs.{needs}
 use Rattle.envelopes.proofs.puts.put_clause.Statement.{statement}
 use Rattle.envelopes.proofs.puts.put_clause.Tie as tie

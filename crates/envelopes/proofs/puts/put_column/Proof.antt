@@ -1,4 +1,4 @@
-use Rattle.envelopes.proofs.PutLaws.{column-long, put-column}
+use Rattle.envelopes.proofs.PutCodeLaws.{column-long, put-column}
 use borrow.Author.Needs.{needs}
 use Rattle.envelopes.proofs.puts.put_column.Statement.{statement}
 use Rattle.envelopes.proofs.puts.put_column.Tie as tie

@@ -1,4 +1,4 @@
-use Rattle.envelopes.proofs.PutLaws.{put-envelope}
+use Rattle.envelopes.proofs.PutCodeLaws.{put-envelope}
 use borrow.Author.Needs.{needs}
 use Rattle.envelopes.proofs.puts.put_envelope.Statement.{statement}
 use Rattle.envelopes.proofs.puts.put_envelope.Tie as tie

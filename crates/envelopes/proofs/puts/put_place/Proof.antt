@@ -1,4 +1,4 @@
-use Rattle.envelopes.proofs.PutLaws.{place-long, put-place}
+use Rattle.envelopes.proofs.PutCodeLaws.{place-long, put-place}
 use borrow.Author.Needs.{needs}
 use Rattle.envelopes.proofs.puts.put_place.Statement.{statement}
 use Rattle.envelopes.proofs.puts.put_place.Tie as tie

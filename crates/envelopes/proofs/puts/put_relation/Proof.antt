@@ -1,4 +1,4 @@
-use Rattle.envelopes.proofs.PutLaws.{relation-long, put-relation}
+use Rattle.envelopes.proofs.PutCodeLaws.{relation-long, put-relation}
 use borrow.Author.Needs.{needs}
 use Rattle.envelopes.proofs.puts.put_relation.Statement.{statement}
 use Rattle.envelopes.proofs.puts.put_relation.Tie as tie

@@ -1,4 +1,4 @@
-use Rattle.envelopes.proofs.PutLaws.{count-long, put-count}
+use Rattle.envelopes.proofs.PutCodeLaws.{count-long, put-count}
 use borrow.Author.Needs.{needs}
 use Rattle.envelopes.proofs.puts.put_relation_part.Statement.{statement}
 use Rattle.envelopes.proofs.puts.put_relation_part.Tie as tie

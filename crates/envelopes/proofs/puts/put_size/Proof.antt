@@ -1,4 +1,4 @@
-use Rattle.envelopes.proofs.PutLaws.{size-long}
+use Rattle.envelopes.proofs.PutCodeLaws.{size-long}
 use borrow.Author.Needs.{needs}
 use Rattle.envelopes.proofs.puts.put_size.Statement.{statement}
 use Rattle.envelopes.proofs.puts.put_size.Tie as tie

@@ -1,5 +1,5 @@
 use Rattle.contents.specs.Parts.{withClauses}
-use Rattle.entries.proofs.ClauseLaws.{clause-good, clause-bad}
+use Rattle.entries.proofs.ClauseCodeLaws.{clause-good, clause-bad}
 use Rattle.entries.specs.Clauses.{noClause, clauseAt}
 use Prim.Native.Nat.{_-_}
 use Rattle.ground.proofs.FillingLaws.{Filling, filling-more}

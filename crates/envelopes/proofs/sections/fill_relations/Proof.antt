@@ -1,5 +1,5 @@
 use Rattle.contents.specs.Parts.{withRelations}
-use Rattle.entries.proofs.RelationLaws.{relation-taken, relation-refused}
+use Rattle.entries.proofs.RelationCodeLaws.{relation-taken, relation-refused}
 use Rattle.entries.specs.Relations.{noRelation, relationAt}
 use Prim.Native.Nat.{_-_}
 use Rattle.ground.proofs.FillingLaws.{Filling, filling-more}

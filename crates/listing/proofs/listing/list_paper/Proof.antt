@@ -1,4 +1,4 @@
-use Rattle.listing.proofs.ListingLaws.{listed}
+use Rattle.listing.proofs.ListingCodeLaws.{listed}
 use borrow.Author.Needs.{needs}
 use Rattle.listing.proofs.listing.list_paper.Statement.{statement}
 use Rattle.listing.proofs.listing.list_paper.Tie as tie

@@ -1,4 +1,4 @@
-use Rattle.listing.proofs.ListingLaws.{last-put}
+use Rattle.listing.proofs.ListingCodeLaws.{last-put}
 use borrow.Author.Needs.{needs}
 use Rattle.listing.proofs.listing.put_last_line.Statement.{statement}
 use Rattle.listing.proofs.listing.put_last_line.Tie as tie

@@ -1,4 +1,4 @@
-use Rattle.listing.proofs.ListingLaws.{listing-taken, listing-refused}
+use Rattle.listing.proofs.ListingCodeLaws.{listing-taken, listing-refused}
 use borrow.Author.Needs.{needs}
 use Rattle.listing.proofs.listing.put_listing.Statement.{statement}
 use Rattle.listing.proofs.listing.put_listing.Tie as tie

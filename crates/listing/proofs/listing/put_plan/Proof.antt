@@ -1,4 +1,4 @@
-use Rattle.listing.proofs.ListingLaws.{plan-put}
+use Rattle.listing.proofs.ListingCodeLaws.{plan-put}
 use borrow.Author.Needs.{needs}
 use Rattle.listing.proofs.listing.put_plan.Statement.{statement}
 use Rattle.listing.proofs.listing.put_plan.Tie as tie

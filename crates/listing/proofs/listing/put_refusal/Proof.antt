@@ -1,4 +1,4 @@
-use Rattle.listing.proofs.ListingLaws.{refusal-put}
+use Rattle.listing.proofs.ListingCodeLaws.{refusal-put}
 use borrow.Author.Needs.{needs}
 use Rattle.listing.proofs.listing.put_refusal.Statement.{statement}
 use Rattle.listing.proofs.listing.put_refusal.Tie as tie

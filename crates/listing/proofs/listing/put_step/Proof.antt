@@ -1,4 +1,4 @@
-use Rattle.listing.proofs.ListingLaws.{step-put}
+use Rattle.listing.proofs.ListingCodeLaws.{step-put}
 use borrow.Author.Needs.{needs}
 use Rattle.listing.proofs.listing.put_step.Statement.{statement}
 use Rattle.listing.proofs.listing.put_step.Tie as tie

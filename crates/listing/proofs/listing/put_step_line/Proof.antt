@@ -1,4 +1,4 @@
-use Rattle.listing.proofs.ListingLaws.{line-put}
+use Rattle.listing.proofs.ListingCodeLaws.{line-put}
 use borrow.Author.Needs.{needs}
 use Rattle.listing.proofs.listing.put_step_line.Statement.{statement}
 use Rattle.listing.proofs.listing.put_step_line.Tie as tie

@@ -1,4 +1,4 @@
-use Rattle.papers.proofs.PutLaws.{put-program}
+use Rattle.papers.proofs.PutCodeLaws.{put-program}
 use borrow.Author.Needs.{needs}
 use Rattle.papers.proofs.puts.put_program.Statement.{statement}
 use Rattle.papers.proofs.puts.put_program.Tie as tie

@@ -1,4 +1,4 @@
-use Rattle.papers.proofs.PutLaws.{step-long, put-step}
+use Rattle.papers.proofs.PutCodeLaws.{step-long, put-step}
 use borrow.Author.Needs.{needs}
 use Rattle.papers.proofs.puts.put_step.Statement.{statement}
 use Rattle.papers.proofs.puts.put_step.Tie as tie
