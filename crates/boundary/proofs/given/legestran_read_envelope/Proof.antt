@@ -1,4 +1,4 @@
-use Rattle.boundary.proofs.RunningLaws.{envelope-said}
+use Rattle.boundary.proofs.RunningCodeLaws.{envelope-said}
 use borrow.Author.Needs.{needs}
 use Rattle.boundary.proofs.given.legestran_read_envelope.Statement.{statement}
 use Rattle.boundary.proofs.given.legestran_read_envelope.Tie as tie

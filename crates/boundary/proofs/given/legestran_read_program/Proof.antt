@@ -1,4 +1,4 @@
-use Rattle.boundary.proofs.RunningLaws.{papers-said}
+use Rattle.boundary.proofs.RunningCodeLaws.{papers-said}
 use borrow.Author.Needs.{needs}
 use Rattle.boundary.proofs.given.legestran_read_program.Statement.{statement}
 use Rattle.boundary.proofs.given.legestran_read_program.Tie as tie

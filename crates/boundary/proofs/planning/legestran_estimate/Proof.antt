@@ -1,4 +1,4 @@
-use Rattle.boundary.proofs.PlanningLaws.{estimate-refused, estimate-taken}
+use Rattle.boundary.proofs.PlanningCodeLaws.{estimate-refused, estimate-taken}
 use borrow.Author.Needs.{needs}
 use Rattle.boundary.proofs.planning.legestran_estimate.Statement.{statement}
 use Rattle.boundary.proofs.planning.legestran_estimate.Tie as tie

@@ -1,4 +1,4 @@
-use Rattle.boundary.proofs.PlanningLaws.{plan-refused, plan-taken}
+use Rattle.boundary.proofs.PlanningCodeLaws.{plan-refused, plan-taken}
 use borrow.Author.Needs.{needs}
 use Rattle.boundary.proofs.planning.legestran_plan.Statement.{statement}
 use Rattle.boundary.proofs.planning.legestran_plan.Tie as tie

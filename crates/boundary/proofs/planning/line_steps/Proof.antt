@@ -2,7 +2,7 @@ use mathlib.Core.Path.{refl}
 use Prim.Native.Nat.{_-_}
 use Rattle.ground.proofs.PuttingLaws.{Copying, copying-start}
 use Rattle.boundary.specs.Planning.{lineSteps}
-use Rattle.boundary.proofs.PlanningLaws.{steps-start, steps-more, steps-done}
+use Rattle.boundary.proofs.PlanningCodeLaws.{steps-start, steps-more, steps-done}
 use borrow.Author.Needs.{needs}
 use native.Mathlib.Omega.{arith}
 use Rattle.boundary.proofs.planning.line_steps.Statement.{statement}

@@ -1,4 +1,4 @@
-use Rattle.boundary.proofs.PlanningLaws.{program-is}
+use Rattle.boundary.proofs.PlanningCodeLaws.{program-is}
 use borrow.Author.Needs.{needs}
 use Rattle.boundary.proofs.planning.program_for.Statement.{statement}
 use Rattle.boundary.proofs.planning.program_for.Tie as tie

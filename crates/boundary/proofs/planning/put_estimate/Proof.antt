@@ -1,5 +1,5 @@
 use native.Mathlib.Omega.{arith}
-use Rattle.boundary.proofs.PlanningLaws.{estimate-short, estimate-none, estimate-put}
+use Rattle.boundary.proofs.PlanningCodeLaws.{estimate-short, estimate-none, estimate-put}
 use borrow.Author.Needs.{needs}
 use Rattle.boundary.proofs.planning.put_estimate.Statement.{statement}
 use Rattle.boundary.proofs.planning.put_estimate.Tie as tie

@@ -1,7 +1,7 @@
 use Prim.Native.Nat.{_-_}
 use Rattle.ground.proofs.WritingLaws.{Writing, writing-start, writing-place, writing-done}
 use Rattle.boundary.specs.Planning.{lineWords}
-use Rattle.boundary.proofs.PlanningLaws.{line-puts}
+use Rattle.boundary.proofs.PlanningCodeLaws.{line-puts}
 use borrow.Author.Needs.{needs}
 use native.Mathlib.Omega.{arith}
 use Rattle.boundary.proofs.planning.put_lines.Statement.{statement}

@@ -1,4 +1,4 @@
-use Rattle.boundary.proofs.PlanningLaws.{pair-put}
+use Rattle.boundary.proofs.PlanningCodeLaws.{pair-put}
 use borrow.Author.Needs.{needs}
 use Rattle.boundary.proofs.planning.put_pair.Statement.{statement}
 use Rattle.boundary.proofs.planning.put_pair.Tie as tie

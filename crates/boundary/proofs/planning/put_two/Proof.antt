@@ -1,4 +1,4 @@
-use Rattle.boundary.proofs.PlanningLaws.{two-put}
+use Rattle.boundary.proofs.PlanningCodeLaws.{two-put}
 use borrow.Author.Needs.{needs}
 use Rattle.boundary.proofs.planning.put_two.Statement.{statement}
 use Rattle.boundary.proofs.planning.put_two.Tie as tie

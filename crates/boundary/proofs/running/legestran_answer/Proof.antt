@@ -1,4 +1,4 @@
-use Rattle.boundary.proofs.RunningLaws.{answer-refused, answer-taken}
+use Rattle.boundary.proofs.RunningCodeLaws.{answer-refused, answer-taken}
 use borrow.Author.Needs.{needs}
 use Rattle.boundary.proofs.running.legestran_answer.Statement.{statement}
 use Rattle.boundary.proofs.running.legestran_answer.Tie as tie

@@ -1,4 +1,4 @@
-use Rattle.boundary.proofs.RunningLaws.{run-refused, run-taken}
+use Rattle.boundary.proofs.RunningCodeLaws.{run-refused, run-taken}
 use borrow.Author.Needs.{needs}
 use Rattle.boundary.proofs.running.legestran_run_in_one_place.Statement.{statement}
 use Rattle.boundary.proofs.running.legestran_run_in_one_place.Tie as tie

@@ -1,4 +1,4 @@
-use Rattle.boundary.proofs.StationLaws.{answer-refused, answer-taken}
+use Rattle.boundary.proofs.StationCodeLaws.{answer-refused, answer-taken}
 use borrow.Author.Needs.{needs}
 use Rattle.boundary.proofs.stations.legestran_answer_at_end.Statement.{statement}
 use Rattle.boundary.proofs.stations.legestran_answer_at_end.Tie as tie

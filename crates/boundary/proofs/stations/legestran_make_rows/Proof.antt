@@ -1,4 +1,4 @@
-use Rattle.boundary.proofs.StationLaws.{rows-refused, rows-taken}
+use Rattle.boundary.proofs.StationCodeLaws.{rows-refused, rows-taken}
 use borrow.Author.Needs.{needs}
 use native.Mathlib.Omega.{arith}
 use Rattle.boundary.proofs.stations.legestran_make_rows.Statement.{statement}

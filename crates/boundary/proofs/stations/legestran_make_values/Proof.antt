@@ -1,4 +1,4 @@
-use Rattle.boundary.proofs.StationLaws.{values-refused, values-taken}
+use Rattle.boundary.proofs.StationCodeLaws.{values-refused, values-taken}
 use borrow.Author.Needs.{needs}
 use native.Mathlib.Omega.{arith}
 use Rattle.boundary.proofs.stations.legestran_make_values.Statement.{statement}

@@ -1,4 +1,4 @@
-use Rattle.boundary.proofs.OpeningLaws.{open-refused, open-taken}
+use Rattle.boundary.proofs.OpeningCodeLaws.{open-refused, open-taken}
 use borrow.Author.Needs.{needs}
 use Rattle.boundary.proofs.stations.legestran_open.Statement.{statement}
 use Rattle.boundary.proofs.stations.legestran_open.Tie as tie

@@ -1,4 +1,4 @@
-use Rattle.boundary.proofs.StationLaws.{all-refused, all-taken}
+use Rattle.boundary.proofs.StationCodeLaws.{all-refused, all-taken}
 use Rattle.boundary.proofs.GivenLaws.{end-long}
 use borrow.Author.Needs.{needs}
 use native.Mathlib.Omega.{arith}

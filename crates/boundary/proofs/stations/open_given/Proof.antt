@@ -1,4 +1,4 @@
-use Rattle.boundary.proofs.OpeningLaws.{given-short, given-refused, given-opened}
+use Rattle.boundary.proofs.OpeningCodeLaws.{given-short, given-refused, given-opened}
 use borrow.Author.Needs.{needs}
 use Rattle.boundary.proofs.stations.open_given.Statement.{statement}
 use Rattle.boundary.proofs.stations.open_given.Tie as tie

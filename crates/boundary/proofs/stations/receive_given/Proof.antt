@@ -1,4 +1,4 @@
-use Rattle.boundary.proofs.StationLaws.{receive-long, receive-refused, receive-taken}
+use Rattle.boundary.proofs.StationCodeLaws.{receive-long, receive-refused, receive-taken}
 use borrow.Author.Needs.{needs}
 use Rattle.boundary.proofs.stations.receive_given.Statement.{statement}
 use Rattle.boundary.proofs.stations.receive_given.Tie as tie

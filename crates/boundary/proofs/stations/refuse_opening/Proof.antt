@@ -1,4 +1,4 @@
-use Rattle.boundary.proofs.OpeningLaws.{refuse-same, refuse-short}
+use Rattle.boundary.proofs.OpeningCodeLaws.{refuse-same, refuse-short}
 use borrow.Author.Needs.{needs}
 use Rattle.boundary.proofs.stations.refuse_opening.Statement.{statement}
 use Rattle.boundary.proofs.stations.refuse_opening.Tie as tie
