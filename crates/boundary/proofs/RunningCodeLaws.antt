@@ -14,7 +14,7 @@ use Rattle.papers.specs.declared.checks.Papers.{Papers}
 use Rattle.papers.specs.declared.checks.PapersRead.{PapersRead}
 use Rattle.papers.proofs.CheckLaws.{papers-taken, papers-refused}
 use Rattle.semijoin.specs.Marks.{marksAfter}
-use Rattle.semijoin.proofs.CallLaws.{call-promise}
+use Rattle.semijoin.proofs.CallPromiseLaws.{call-promise}
 use Rattle.semijoin.specs.Run.{runOutcome}
 use Rattle.answerer.specs.Answer.{answerOutcome, answeredOf, answeredIn}
 use Rattle.answerer.specs.declared.answer.Answered.{Answered}

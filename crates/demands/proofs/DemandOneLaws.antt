@@ -23,7 +23,7 @@ use Rattle.papers.specs.Programs.{checkProgram, programBytes}
 use Rattle.tables.specs.Shape.{marksTests, columnTests}
 use Rattle.tables.proofs.CallLaws.{values-number as gathered-number, values-stay}
 use Rattle.semijoin.specs.Marks.{marksAfter}
-use Rattle.semijoin.proofs.CallLaws.{call-promise}
+use Rattle.semijoin.proofs.CallPromiseLaws.{call-promise}
 use Rattle.ends.proofs.SoundLaws.{firstNumbers, usable-number}
 use Rattle.station.proofs.OpeningLaws.{open-number, open-untouched}
 use Rattle.station.proofs.MakingLaws.{values-number, rows-number, made-untouched}

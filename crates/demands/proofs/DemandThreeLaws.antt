@@ -20,7 +20,7 @@ use Rattle.paths.specs.declared.steps.Step.{Step}
 use Rattle.tables.specs.Offsets.{rowCount}
 use Rattle.semijoin.specs.Local.{openedIn}
 use Rattle.semijoin.specs.Run.{steppedAll, runMarks}
-use Rattle.semijoin.proofs.CallLaws.{call-promise}
+use Rattle.semijoin.proofs.CallPromiseLaws.{call-promise}
 use Rattle.ends.specs.Reducing.{stepCount}
 use Rattle.demands.specs.Link.{Crew, Allowed, State, start, Event, after, afterAll, Follows}
 use Rattle.demands.specs.DemandThree.{runAfter, Lower, Upper, answering, DemandThree, EveryHistory}

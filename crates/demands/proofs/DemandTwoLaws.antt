@@ -30,7 +30,7 @@ use Rattle.tables.specs.Shape.{shaped}
 use Rattle.tables.specs.Values.{valuesOf}
 use Rattle.semijoin.specs.Run.{stepped}
 use Rattle.semijoin.proofs.PromiseLaws.{promise}
-use Rattle.semijoin.proofs.CallLaws.{call-promise}
+use Rattle.semijoin.proofs.CallPromiseLaws.{call-promise}
 use Rattle.answerer.specs.Answer.{answerOutcome}
 use Rattle.answerer.proofs.AnswerLaws.{answer-exact}
 use Rattle.demands.specs.DemandTwo.{OnPath, EstimateKept, DemandTwo}

@@ -1,5 +1,5 @@
 -- DemandOneLaws: demand 1 holds, by NumberLaws, PaperLaws, StructLaws, StructPapers and AnswerNumbers. DemandTwoLaws: demand 2.
--- DemandThreeLaws: demand 3, by what stays in every state (Sound, Lower, Upper, Room). OrderLaws: in order every call is taken.
+-- DemandThreeLaws: demand 3, by what stays in every state (Sound, Lower, Upper, Room). OrderlyLaws: in order every call is taken.
 -- The Unique files: each contract determines its result. Excluded: what 01 excludes by name. Figures, TwoStations: values computed.
 pub mod NumberLaws
 pub mod PaperLaws
@@ -19,7 +19,7 @@ pub mod LowerLaws
 pub mod UpperLaws
 pub mod GoingLaws
 pub mod ReadyLaws
-pub mod OrderLaws
+pub mod OrderlyLaws
 pub mod AssembledLaws
 pub mod RoomLaws
 pub mod DemandThreeLaws

@@ -22,7 +22,7 @@ use Rattle.semijoin.specs.Marks.{reducedBy}
 use Rattle.tables.specs.Values.{valuesOf}
 use Rattle.semijoin.specs.Run.{stepped, steppedAll}
 use Rattle.semijoin.proofs.PromiseLaws.{promise}
-use Rattle.semijoin.proofs.CallLaws.{call-promise}
+use Rattle.semijoin.proofs.CallPromiseLaws.{call-promise}
 use Rattle.ends.specs.Reducing.{stepCount, stepOf, reduces, reducing, stepsBefore}
 use Rattle.demands.specs.Link.{Crew}
 use Rattle.demands.specs.DemandThree.{runAfter}

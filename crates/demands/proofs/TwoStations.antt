@@ -27,7 +27,7 @@ use Rattle.answerer.specs.Answer.{fitted as answerFits}
 use Rattle.demands.specs.Link.{Crew, Allowed, State, start, afterAll, lentStore, siteOpened, withMade, withTaken, after}
 use Rattle.demands.specs.Orderly.{inTurn, inOrder, Happens}
 use Rattle.demands.specs.DemandThree.{answering}
-use Rattle.demands.proofs.OrderLaws.{in-order}
+use Rattle.demands.proofs.OrderlyLaws.{in-order}
 use Rattle.tables.specs.Offsets.{rowCount}
 use Rattle.ground.specs.Bytes.{littleEnd, bytesOf}
 use Rattle.ground.specs.Lists.{padded, numbersFrom}

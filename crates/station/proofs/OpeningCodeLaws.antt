@@ -30,7 +30,7 @@ use Rattle.tables.specs.Offsets.{rowCount}
 use Rattle.tables.specs.Shape.{shaped}
 use Rattle.semijoin.specs.Marks.{marksAfter}
 use Rattle.semijoin.specs.Local.{openedIn, openOutcome}
-use Rattle.semijoin.proofs.CallLaws.{call-promise}
+use Rattle.semijoin.proofs.CallPromiseLaws.{call-promise}
 use Rattle.station.specs.Calls.{leaves}
 use Rattle.ends.specs.Ends.{Marked, startOf, noEnd}
 use Rattle.station.specs.Opening.{hereAt, openWith, openOf, shownOpened, openedMarks}

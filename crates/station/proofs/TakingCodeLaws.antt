@@ -31,7 +31,7 @@ use Rattle.tables.specs.Rising.{isRising}
 use Rattle.semijoin.specs.Marks.{reducedBy, reduceOutcome, reducedOf, marksAfter}
 use Rattle.semijoin.specs.declared.marks.Reduced.{Reduced}
 use Rattle.semijoin.specs.declared.marks.Reduced.the-variants as r
-use Rattle.semijoin.proofs.CallLaws.{call-promise}
+use Rattle.semijoin.proofs.CallPromiseLaws.{call-promise}
 use Rattle.ends.specs.Reducing.{stepCount, stepOf, stepsBefore, missingOf}
 use Rattle.ends.specs.declared.reducing.Missing.{Missing}
 use Rattle.station.specs.Calls.{leaves}
