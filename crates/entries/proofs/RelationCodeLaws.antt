@@ -3,7 +3,7 @@ use mathlib.Core.Path.{_≡_, ap, sym, _∙_}
 use Prim.Native.Nat.{ℕ, _+_, _≤_, _<_, min}
 use mathlib.Core.List.{List}
 use lib.ListN.{length, getD, set, replicate, List·getD-eq-default}
-use Rattle.ground.specs.Outcome.{Outcome, next, verdictOf, nextOf, valueOf}
+use Rattle.ground.specs.Outcome.{Outcome, next, verdictOf, nextOf, leaves}
 use Rattle.ground.specs.Outcome.Outcome.{good, bad}
 use Rattle.ground.specs.declared.Verdict.the-variants.{Taken, Refused}
 use Rattle.ground.proofs.OutcomeLaws.{never, taken-is, refused-is}
@@ -36,7 +36,7 @@ pub relation-refused : (o : Outcome Relation) (x : RelationRead) (m q : ℕ) →
 relation-refused o x m q e g = refused-is o m q (sym (ap (λ (c : RelationRead). c .verdict) e) ∙ g)
 
 pub relation-none : (m q : ℕ) (z : Relation) → z ≡ noRelation → record { verdict = Refused m q; next = 0; relation = z } ≡ shownRelation (bad m q)
-unfolding verdictOf nextOf valueOf
+unfolding verdictOf nextOf leaves
 relation-none m q z e = ap (λ (x : Relation). record { verdict = Refused m q; next = 0; relation = x }) e
 
 pub past-size : (sizes : List ℕ) (i : ℕ) → length sizes ≤ i → 0 ≡ getD sizes i 0
@@ -102,7 +102,7 @@ module _ (count : ℕ) (sizes : List ℕ) (rows : ℕ) (s : List ℕ) (k at : �
     pub columns-done : (site : ℕ) → k ≤ i
         → record { verdict = Taken; next = p; relation = record { site = site; «column_count» = k; rows = rows; columns = out } }
         ≡ shownRelation (columnsThen count sizes s site k rows at)
-    unfolding columnsThen verdictOf nextOf valueOf
+    unfolding columnsThen verdictOf nextOf leaves
     columns-done site h =
         simp (filling-good 8 noColumn (λ _. columnAt count sizes rows s) k at i p out f h)
         (ap

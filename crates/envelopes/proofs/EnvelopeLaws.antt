@@ -3,7 +3,7 @@ use mathlib.Core.Path.{_≡_, ap, sym, _∙_}
 use Prim.Native.Nat.{ℕ, _≤_, _<_}
 use mathlib.Core.List.{List}
 use lib.ListN.{take, replicate}
-use Rattle.ground.specs.Outcome.{Outcome, next, verdictOf, nextOf, valueOf}
+use Rattle.ground.specs.Outcome.{Outcome, next, verdictOf, nextOf, leaves}
 use Rattle.ground.specs.Outcome.Outcome.{good, bad}
 use Rattle.ground.specs.declared.Verdict.the-variants.{Taken, Refused}
 use Rattle.ground.proofs.OutcomeLaws.{taken-is, refused-is}
@@ -32,7 +32,7 @@ pub part-refused : (o : Outcome Envelope) (x : EnvelopePart) (m q : ℕ) → x �
 part-refused o x m q e g = refused-is o m q (sym (ap (λ (c : EnvelopePart). c .verdict) e) ∙ g)
 
 pub part-none : (m q : ℕ) (z : Envelope) → z ≡ noEnvelope → record { verdict = Refused m q; next = 0; envelope = z } ≡ shownPart (bad m q)
-unfolding verdictOf nextOf valueOf
+unfolding verdictOf nextOf leaves
 part-none m q z e = ap (λ (x : Envelope). record { verdict = Refused m q; next = 0; envelope = x }) e
 
 -- ---- a list in the array, whatever its kind
@@ -49,7 +49,7 @@ module _ {A : Type 0} (size : ℕ) (z : A) (put : List A → Envelope → Envelo
 
   pub filled-done : (x : Envelope) → n ≤ i → x ≡ put (take n out) e
       → record { verdict = Taken; next = p; envelope = x } ≡ shownPart (filled put item n at e)
-  unfolding filled verdictOf nextOf valueOf
+  unfolding filled verdictOf nextOf leaves
   filled-done x h y =
       simp (filling-good size z (λ _. item) n at i p out f h) (ap (λ (c : Envelope). record { verdict = Taken; next = p; envelope = c }) y)
 

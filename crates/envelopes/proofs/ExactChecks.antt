@@ -19,7 +19,7 @@ use Rattle.entries.specs.Places.{placeBytes}
 use Rattle.entries.specs.Clauses.{clauseBytes}
 use Rattle.contents.specs.Parts.{sizesOf, relationsOf, clausesOf, targetsOf}
 use Rattle.contents.specs.Kept.{keptColumns}
-use Rattle.envelopes.specs.Envelope.{CPN, readEnvelope, envelopeBytes, checkEnvelope, envelopeWritten, envelopeWrittenIn}
+use Rattle.envelopes.specs.Envelope.{CPN, readEnvelope, envelopeBytes, checkEnvelope, writeEnvelopeOf, envelopeWritten, envelopeWrittenIn}
 use Rattle.envelopes.specs.Rules.{Between, RelationWithin, PlaceWithin, KindWithin, ClauseWithin, Within, tidyRelation, tidy}
 use Rattle.envelopes.specs.Fits.{PlaceFits, RelationFits, ClauseFits, Fits}
 use Rattle.entries.specs.declared.places.Place.{Place}
@@ -188,7 +188,7 @@ check-exact e f p h = (sound, complete)
 -- What the writer leaves in the buffer, as far as the length that it answers, reads as the envelope that was written.
 pub envelope-written-back : (e : Envelope) → Fits e → (out : List ℕ) (n : ℕ) → envelopeWritten e out ≡ Length n
     → readEnvelope (take n (envelopeWrittenIn e out)) ≡ good (tidy e) n
-unfolding checkEnvelope
+unfolding checkEnvelope writeEnvelopeOf
 envelope-written-back e fits out n w =
     let (f, q, c, long, same) = written-back (checkEnvelope e) (envelopeBytes e) out n w in
     let (within, is, end) = check-exact e f q fits .0 c in

@@ -8,22 +8,22 @@ use mathlib.Core.Bool.{Bool, true, false}
 use lib.ListN.{length}
 use borrow.Author.Tests.{lt-ltb, le-ltb}
 use Rattle.ground.specs.Tests.{pick}
-use Rattle.ground.specs.Outcome.{Outcome, next, many, verdictOf, nextOf, valueOf}
+use Rattle.ground.specs.Outcome.{Outcome, next, many, verdictOf, nextOf, leaves}
 use Rattle.ground.specs.Outcome.Outcome.{good, bad}
 use Rattle.ground.specs.declared.Verdict.the-variants.{Taken, Refused}
 use Rattle.ground.proofs.OutcomeLaws.{taken-is, refused-is, next-good, numbered-length}
 use Rattle.fields.specs.Refusals.{noKeptColumn}
 use Rattle.fields.specs.Numbers.{numberIn, headOf, shownNumber}
-use Rattle.fields.specs.Puts.{frontOf, frontIn}
+use Rattle.fields.specs.Puts.{fitted}
 use Rattle.fields.specs.declared.numbers.NumberRead.{NumberRead}
 use Rattle.fields.specs.declared.numbers.NumberRead.the-variants as n
 use Rattle.fields.specs.declared.puts.Written.{Written}
 use Rattle.fields.specs.declared.puts.Written.the-variants as w
 use Rattle.fields.proofs.NumberLaws.{number-good, number-bad, in-good}
-use Rattle.fields.proofs.PutLaws.{written-refused, written-front}
+use Rattle.fields.proofs.PutLaws.{Writes, written-refused, written-front}
 use Rattle.contents.specs.Parts.{noEnvelope, withVersion, withSizes}
 use Rattle.contents.specs.Kept.{shownBare}
-use Rattle.envelopes.specs.Envelope.{CPN, sizeAt, filled, listInto, sizesInto, relationsInto, clausesInto, targetsInto, bareOutcome, ended, targetsThen, clausesThen, relationsThen, sizesThen, envelopeFrom, readEnvelope, envelopeBytes, checkEnvelope, envelopeWritten, envelopeWrittenIn, shownPart, shownEnvelope}
+use Rattle.envelopes.specs.Envelope.{CPN, sizeAt, filled, listInto, sizesInto, relationsInto, clausesInto, targetsInto, bareOutcome, ended, targetsThen, clausesThen, relationsThen, sizesThen, envelopeFrom, readEnvelope, envelopeBytes, checkEnvelope, writeEnvelopeOf, envelopeWritten, envelopeWrittenIn, shownPart, shownEnvelope}
 use Rattle.contents.specs.declared.kept.Bare.{Bare}
 use Rattle.contents.specs.declared.kept.Bare.the-variants.{Lowest, None}
 use Rattle.contents.specs.declared.envelope.Envelope.{Envelope}
@@ -38,7 +38,7 @@ pub read-refused : (o : Outcome Envelope) (x : EnvelopeRead) (m q : ℕ) → x �
 read-refused o x m q e g = refused-is o m q (sym (ap (λ (c : EnvelopeRead). c .verdict) e) ∙ g)
 
 pub read-none : (m q : ℕ) (z : Envelope) → z ≡ noEnvelope → record { verdict = Refused m q; envelope = z } ≡ shownEnvelope (bad m q)
-unfolding verdictOf valueOf
+unfolding verdictOf leaves
 read-none m q z e = ap (λ (x : Envelope). record { verdict = Refused m q; envelope = x }) e
 
 -- ---- the end: bytes left over, a relation with no kept column
@@ -59,7 +59,7 @@ module _ (s : List ℕ) (at : ℕ) (e : Envelope) where
         y ∙ ap (λ (c : Bare). shownEnvelope (bareOutcome c e at)) (sym k ∙ g) ∙ simp (le-ltb _ _ h)
 
     pub end-taken : b ≡ None → record { verdict = Taken; envelope = e } ≡ shownEnvelope (ended s at e)
-    unfolding ended verdictOf valueOf
+    unfolding ended verdictOf leaves
     end-taken k =
         ap (λ (c : Bare). shownEnvelope (bareOutcome c e at)) (sym k ∙ g) ∙ simp (le-ltb _ _ h)
 
@@ -146,8 +146,10 @@ check-is e l x h y = y ∙ ap (λ (b : List ℕ). shownEnvelope (readEnvelope b)
 
 module _ (e : Envelope) (out : List ℕ) (c : EnvelopeRead) (g : c ≡ shownEnvelope (checkEnvelope e)) where
   pub write-refused : (m q : ℕ) → c .verdict ≡ Refused m q → (w.Refused m q ≡ envelopeWritten e out) × (out ≡ envelopeWrittenIn e out)
+  unfolding writeEnvelopeOf
   write-refused m q v = written-refused (checkEnvelope e) (envelopeBytes e) out m q (read-refused (checkEnvelope e) c m q g v)
 
   pub write-front : (l after : List ℕ) (x : Written) → c .verdict ≡ Taken → l ≡ envelopeBytes e
-      → (x ≡ frontOf l out) × (after ≡ frontIn l out) → (x ≡ envelopeWritten e out) × (after ≡ envelopeWrittenIn e out)
+      → Writes 0 out (fitted (length out) l) x after → (x ≡ envelopeWritten e out) × (after ≡ envelopeWrittenIn e out)
+  unfolding writeEnvelopeOf
   write-front l after x v h y = written-front (checkEnvelope e) (envelopeBytes e) out _ _ l after x (read-taken (checkEnvelope e) c g v) h y

@@ -13,7 +13,7 @@ use Rattle.ground.specs.Outcome.Outcome.{good, bad}
 use Rattle.ground.specs.Bytes.{bytesOf}
 use Rattle.fields.specs.Refusals.{leftOver, noKeptColumn}
 use Rattle.fields.specs.Numbers.{numberIn, headOf}
-use Rattle.fields.specs.Puts.{writtenOf, writtenIn}
+use Rattle.fields.specs.Puts.{fitted, writtenOf, writtenIn}
 use Rattle.fields.specs.declared.puts.Written.{Written}
 use Rattle.entries.specs.Relations.{relationAt, relationBytes}
 use Rattle.entries.specs.Places.{placeAt, placeBytes}
@@ -98,12 +98,15 @@ envelopeBytes e =
 unfoldable pub checkEnvelope : Envelope → Outcome Envelope
 checkEnvelope e = readEnvelope (envelopeBytes e)
 
--- writing it: the envelope is checked first, then 11
+-- writing it into so much room: the envelope is checked first, then 11
+unfoldable pub writeEnvelopeOf : Envelope → ℕ → Outcome (List ℕ)
+writeEnvelopeOf e room = next (checkEnvelope e) (λ _ _. fitted room (envelopeBytes e))
+
 abbrev pub envelopeWritten : Envelope → List ℕ → Written
-envelopeWritten e out = writtenOf (checkEnvelope e) (envelopeBytes e) out
+envelopeWritten e out = writtenOf (writeEnvelopeOf e (length out))
 
 abbrev pub envelopeWrittenIn : Envelope → List ℕ → List ℕ
-envelopeWrittenIn e out = writtenIn (checkEnvelope e) (envelopeBytes e) out
+envelopeWrittenIn e out = writtenIn out (writeEnvelopeOf e (length out))
 
 -- ---- what the functions answer
 

@@ -1,24 +1,25 @@
--- The laws of writing: bytes put into a buffer, and a copy to its front.
+-- The laws of writing: bytes put into a buffer, what a call answers and leaves in it, and a copy to its front.
 -- Assumes nothing.
 use mathlib.Core.Path.{_≡_, refl, ap, sym, _∙_}
 use Prim.Native.Nat.{ℕ, zero, suc, _+_, _/_, _%_, _≤_, _<_}
 use native.Mathlib.Numerals.{add-one, add-two}
 use native.Mathlib.Omega.{arith}
-use mathlib.Core.List.{List, [], _∷_, _++_}
-use mathlib.Core.Bool.{Bool, true, false}
+use mathlib.Core.List.{List, [], _∷_, _++_, List·Memᴰ}
 use lib.ListN.{length, set, take, replicate, length-append, length-replicate}
 use lib.Seq.{sets, set-out, take-length}
-use lib.Dec.{leb}
-use borrow.Author.Tests.{lt-leb, le-leb, leb-true}
-use Rattle.ground.specs.Tests.{pick}
+use lib.Dec.{ltb}
+use borrow.Author.Tests.{lt-ltb, le-ltb, ltb-false}
 use Rattle.ground.specs.Bytes.{bytesOf}
-use Rattle.ground.specs.Outcome.{Outcome}
+use Rattle.ground.specs.Outcome.{Outcome, next, leaves}
 use Rattle.ground.specs.Outcome.Outcome.{good, bad}
-use Rattle.ground.proofs.OutcomeLaws.{never}
+use Rattle.ground.specs.Refusing.{test}
+use Rattle.ground.proofs.OutcomeLaws.{never, next-good, unless-good}
+use Rattle.ground.proofs.RefusingLaws.{refusal-listed}
 use Rattle.ground.proofs.PuttingLaws.{Copying, copying-done, sets-append, sets-stand}
 use Rattle.fields.specs.Numbers.{bytesWide}
+use Rattle.fields.specs.Refusals.{tooShort}
 use Rattle.fields.specs.declared.numbers.Width.{Width}
-use Rattle.fields.specs.Puts.{frontOf, frontIn, writtenOf, writtenIn, Puts, Fronts}
+use Rattle.fields.specs.Puts.{fitted, writtenOf, writtenFrom, writtenIn, Puts, Fronts}
 use Rattle.fields.specs.declared.puts.Written.{Written}
 use Rattle.fields.specs.declared.puts.Written.the-variants.{Length, Refused}
 
@@ -47,29 +48,97 @@ pub put-width : (x y : Width) (l : List ℕ) (at v : ℕ) (a : List ℕ) → x �
     → a ≡ sets l at (bytesOf (bytesWide x) v)
 put-width x y l at v a e h = h ∙ simp e
 
+-- ---- an outcome as the answer and the buffer afterwards, from a start on
+
+abbrev pub Writes : ℕ → List ℕ → Outcome (List ℕ) → Written → List ℕ → Type 0
+Writes start out o answer after = (answer ≡ writtenOf o) × (after ≡ writtenFrom start out o)
+
+module _ (start : ℕ) (out : List ℕ) (o : Outcome (List ℕ)) where
+  pub writes-bad : (m p : ℕ) → o ≡ bad m p → Writes start out o (Refused m p) out
+  unfolding writtenOf leaves
+  writes-bad m p e = (ap writtenOf (sym e), ap (writtenFrom start out) (sym e))
+
+  pub writes-good : (words : List ℕ) (p n : ℕ) (after : List ℕ) → o ≡ good words p → n ≡ length words → after ≡ sets out start words
+      → Writes start out o (Length n) after
+  unfolding writtenOf leaves
+  writes-good words p n after e f k = (rw f (ap writtenOf (sym e)), k ∙ ap (writtenFrom start out) (sym e))
+
+  pub writes-same : (o' : Outcome (List ℕ)) → o ≡ o' → (answer : Written) (after : List ℕ) → Writes start out o' answer after
+      → Writes start out o answer after
+  writes-same o' e answer after h = (h .0 ∙ ap writtenOf (sym e), h .1 ∙ ap (writtenFrom start out) (sym e))
+
+-- an answer turned back into the outcome
+pub written-bad : (o : Outcome (List ℕ)) (m q : ℕ) → writtenOf o ≡ Refused m q → o ≡ bad m q
+unfolding writtenOf
+written-bad (good words p) m q e = let z : _≡_ {A = ℕ} 0 1 = cc in absurd (never z)
+written-bad (bad n p) m q e = cc
+
+pub written-good : (o : Outcome (List ℕ)) (n : ℕ) → writtenOf o ≡ Length n
+    → (words : List ℕ) × (p : ℕ) × (o ≡ good words p) × (n ≡ length words)
+unfolding writtenOf
+written-good (good words p) n e = (words, p, refl, cc)
+written-good (bad m p) n e = let z : _≡_ {A = ℕ} 0 1 = cc in absurd (never z)
+
+-- ---- words that fit, and those that do not
+
+module _ (room : ℕ) (words : List ℕ) where
+  pub fitted-short : room < length words → fitted room words ≡ bad tooShort 0
+  unfolding fitted
+  fitted-short h = rw (lt-ltb room (length words) h)
+
+  pub fitted-fits : length words ≤ room → fitted room words ≡ good words (length words)
+  unfolding fitted
+  fitted-fits h = rw (le-ltb room (length words) h)
+
+  pub fitted-good : (kept : List ℕ) (p : ℕ) → fitted room words ≡ good kept p → (kept ≡ words) × (length words ≤ room) × (p ≡ length words)
+  unfolding fitted
+  fitted-good kept p e =
+      let (fits, same) = unless-good (ltb room (length words)) tooShort 0 (good words (length words)) kept p e in
+      (cc, ltb-false _ _ fits, cc)
+
+  pub fitted-bad : (m p : ℕ) → fitted room words ≡ bad m p → List·Memᴰ m (tooShort ∷ []) × (p ≡ 0)
+  unfolding fitted
+  fitted-bad m p e = refusal-listed (test (ltb room (length words)) tooShort 0 ∷ []) words (length words) m p (refl, tt) e
+
 -- ---- a copy to the front
 
-pub front-short : (s out : List ℕ) → length out < length s → (Refused 11 0 ≡ frontOf s out) × (out ≡ frontIn s out)
-unfolding frontOf frontIn
-front-short s out h = (simp (lt-leb _ _ h), simp (lt-leb _ _ h))
+pub front-short : (s out : List ℕ) → length out < length s → Writes 0 out (fitted (length out) s) (Refused 11 0) out
+front-short s out h = writes-bad 0 out _ 11 0 (fitted-short (length out) s h)
 
 pub front-whole : (s before out : List ℕ) (i : ℕ) → Copying s before 0 (length s) i i out → length s ≤ i → length s ≤ length before
-    → (Length i ≡ frontOf s before) × (out ≡ frontIn s before)
-unfolding frontOf frontIn
+    → Writes 0 before (fitted (length before) s) (Length i) out
 front-whole s before out i c h k =
-    let e : i ≡ length s = omega arith in
-    (simp (le-leb _ _ k, e), copying-done s before 0 (length s) i i out c h ∙ simp (le-leb _ _ k, take-length))
+    writes-good 0 before _ s (length s) i out (fitted-fits (length before) s k) (omega arith)
+    (copying-done s before 0 (length s) i i out c h ∙ simp take-length)
 
--- what is written once something was judged, whatever it is
+-- the bytes of what was judged, whatever it is
 module _ {A : Type 0} (o : Outcome A) (bytes out : List ℕ) where
-  pub written-refused : (m q : ℕ) → o ≡ bad m q → (Refused m q ≡ writtenOf o bytes out) × (out ≡ writtenIn o bytes out)
-  unfolding writtenOf writtenIn
-  written-refused m q h = (simp h, simp h)
+  abbrev wrote : Outcome (List ℕ)
+  wrote = next o (λ _ _. fitted (length out) bytes)
+
+  pub written-refused : (m q : ℕ) → o ≡ bad m q → Writes 0 out wrote (Refused m q) out
+  written-refused m q h = writes-bad 0 out wrote m q (ap (λ (o : Outcome A). next o (λ _ _. fitted (length out) bytes)) h)
 
   pub written-front : (v : A) (p : ℕ) (l after : List ℕ) (x : Written) → o ≡ good v p → l ≡ bytes
-      → (x ≡ frontOf l out) × (after ≡ frontIn l out) → (x ≡ writtenOf o bytes out) × (after ≡ writtenIn o bytes out)
-  unfolding writtenOf writtenIn
-  written-front v p l after x h e y = (y .0 ∙ simp (e, h), y .1 ∙ simp (e, h))
+      → Writes 0 out (fitted (length out) l) x after → Writes 0 out wrote x after
+  written-front v p l after x h e y =
+      writes-same 0 out wrote (fitted (length out) l)
+      (ap (λ (o : Outcome A). next o (λ _ _. fitted (length out) bytes)) h ∙ ap (fitted (length out)) (sym e))
+      x
+      after
+      y
+
+  -- it reads back: the length says how far, and there stand the bytes
+  pub written-back : (n : ℕ) → writtenOf wrote ≡ Length n
+      → (v : A) × (p : ℕ) × (o ≡ good v p) × (n ≡ length bytes) × (take n (writtenIn out wrote) ≡ bytes)
+  unfolding leaves
+  written-back n e =
+      let (words, q, whole, long) = written-good wrote n e in
+      let (v, p, taken, rest) = next-good o _ words q whole in
+      let (same, room, _) = fitted-good (length out) bytes words q rest in
+      let count : n ≡ length bytes = long ∙ ap (λ (l : List ℕ). length l) same in
+      let stands : writtenIn out wrote ≡ sets out 0 bytes = ap (writtenIn out) whole ∙ ap (sets out 0) same in
+      (v, p, taken, count, rw (stands, count) (sets-stand out 0 bytes (omega (arith, room))))
 
 -- ---- a mark and a version, and what is put behind
 
@@ -102,18 +171,3 @@ module _ (size most : ℕ) (bytes : List ℕ) (r : ℕ) (after : List ℕ) (f : 
 
   pub fresh-count : r ≡ length (take r after)
   fresh-count = f .0 ∙ ap length (sym fresh-bytes)
-
--- ---- what was written reads back: the length says how far, and there stand the bytes
-
-front-by : (bytes out : List ℕ) (n : ℕ) (b : Bool) → leb (length bytes) (length out) ≡ b → pick b (Length (length bytes)) (Refused 11 0) ≡ Length n
-    → (n ≡ length bytes) × (length bytes ≤ length out)
-front-by bytes out n true h e = (cc, leb-true (length bytes) (length out) h)
-front-by bytes out n false h e = let z : _≡_ {A = ℕ} 0 1 = cc in absurd (never z)
-
-pub written-back : {A : Type 0} (o : Outcome A) (bytes out : List ℕ) (n : ℕ) → writtenOf o bytes out ≡ Length n
-    → (v : A) × (p : ℕ) × (o ≡ good v p) × (n ≡ length bytes) × (take n (writtenIn o bytes out) ≡ bytes)
-unfolding writtenOf writtenIn frontOf frontIn
-written-back (good v p) bytes out n e =
-    let t = front-by bytes out n (leb (length bytes) (length out)) refl e in
-    (v, p, refl, t .0, rw (t .0) (simp (le-leb _ _ (t .1)) (sets-stand out 0 bytes (omega (arith, t .1)))))
-written-back (bad m q) bytes out n e = let z : _≡_ {A = ℕ} 0 1 = cc in absurd (never z)

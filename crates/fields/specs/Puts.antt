@@ -2,32 +2,32 @@
 -- 11: "lent buffer too short". A refusal leaves the whole buffer.
 use Prim.Native.Nat.{ℕ, _+_, _≤_}
 use mathlib.Core.Path.{_≡_}
-use mathlib.Core.List.{List}
+use mathlib.Core.List.{List, [], _∷_}
 use lib.ListN.{length}
 use lib.Seq.{sets}
-use lib.Dec.{leb}
-use Rattle.ground.specs.Tests.{pick}
-use Rattle.ground.specs.Outcome.{Outcome}
+use lib.Dec.{ltb}
+use Rattle.ground.specs.Outcome.{Outcome, leaves}
 use Rattle.ground.specs.Outcome.Outcome.{good, bad}
+use Rattle.ground.specs.Refusing.{test, judged}
 use Rattle.fields.specs.Refusals.{tooShort}
 use Rattle.fields.specs.declared.puts.Written.{Written}
 use Rattle.fields.specs.declared.puts.Written.the-variants.{Length, Refused}
 
--- bytes written to the front: the answer, and the buffer afterwards
-unfoldable pub frontOf : List ℕ → List ℕ → Written
-frontOf bytes out = pick (leb (length bytes) (length out)) (Length (length bytes)) (Refused tooShort 0)
+-- 11 where so many do not fit into the room that is lent
+unfoldable pub fitted : ℕ → List ℕ → Outcome (List ℕ)
+fitted room words = judged (test (ltb room (length words)) tooShort 0 ∷ []) (good words (length words))
 
-unfoldable pub frontIn : List ℕ → List ℕ → List ℕ
-frontIn bytes out = pick (leb (length bytes) (length out)) (sets out 0 bytes) out
+-- what a call that writes answers: the length written, or the refusal
+unfoldable pub writtenOf : Outcome (List ℕ) → Written
+writtenOf (good words p) = Length (length words)
+writtenOf (bad n p) = Refused n p
 
--- the same once what they are the bytes of was taken
-unfoldable pub writtenOf : {A : Type 0} → Outcome A → List ℕ → List ℕ → Written
-writtenOf (good v p) bytes out = frontOf bytes out
-writtenOf (bad n p) bytes out = Refused n p
+-- the lent buffer afterwards: from a start on, and from the front on
+abbrev pub writtenFrom : ℕ → List ℕ → Outcome (List ℕ) → List ℕ
+writtenFrom start out o = leaves (sets out start) out o
 
-unfoldable pub writtenIn : {A : Type 0} → Outcome A → List ℕ → List ℕ → List ℕ
-writtenIn (good v p) bytes out = frontIn bytes out
-writtenIn (bad n p) bytes out = out
+abbrev pub writtenIn : List ℕ → Outcome (List ℕ) → List ℕ
+writtenIn out o = writtenFrom 0 out o
 
 -- bytes put from a position on: the position past them, at most some further on, and the buffer afterwards
 abbrev pub Puts : List ℕ → ℕ → ℕ → List ℕ → ℕ → List ℕ → Type 0

@@ -3,11 +3,11 @@ use crate::numbers::Width;
 use crate::refusals;
 ghost use mathlib.Core.Path.{_≡_};
 ghost use mathlib.Core.List.{[], _∷_, _++_};
-ghost use lib.ListN.{set};
+ghost use lib.ListN.{length, set};
 ghost use lib.Seq.{sets};
 ghost use Rattle.ground.specs.Bytes.{bytesOf};
 ghost use Rattle.fields.specs.Numbers.{bytesWide};
-ghost use Rattle.fields.specs.Puts.{frontOf, frontIn, Fronts};
+ghost use Rattle.fields.specs.Puts.{fitted, writtenOf, writtenIn, Fronts};
 
 // The length written, or the refusal; then nothing was written.
 pub enum Written {
@@ -64,7 +64,7 @@ pub fn put_head(out: &mut [u8], a: u8, b: u8, c: u8, version: u16) -> usize
 
 // Bytes written to the front of a buffer, or 11 where they do not fit.
 pub fn write_front(bytes: &[u8], out: &mut [u8]) -> Written
-    ensures { λ r. ⌜ (r ≡ frontOf (now (bytes .entry)) (now (out .entry))) × (now (out .exit) ≡ frontIn (now (bytes .entry)) (now (out .entry))) ⌝ }
+    ensures { λ r. ⌜ (r ≡ writtenOf (fitted (length (now (out .entry))) (now (bytes .entry)))) × (now (out .exit) ≡ writtenIn (now (out .entry)) (fitted (length (now (out .entry))) (now (bytes .entry)))) ⌝ }
 {
     if out.len() < bytes.len() {
         return Written::Refused {

@@ -8,7 +8,7 @@ use Prim.Native.Nat.{ℕ, zero, suc, _+_}
 use native.Mathlib.Omega.{arith}
 use lib.ListN.{length}
 use Rattle.ground.specs.Tests.{pick}
-use Rattle.ground.specs.Outcome.{Outcome, next, andMore, numbered, verdictOf, nextOf, valueOf}
+use Rattle.ground.specs.Outcome.{Outcome, next, andMore, numbered, verdictOf, nextOf, leaves, valueOf}
 use Rattle.ground.specs.Outcome.Outcome.{good, bad}
 use Rattle.ground.specs.declared.Verdict.the-variants.{Taken, Refused}
 
@@ -20,7 +20,7 @@ pub good-bad : {A : Type 0} (v : A) (p m q : ℕ) → good v p ≡ bad m q → �
 good-bad v p m q e = let z : _≡_ {A = ℕ} 0 1 = cc in never z
 
 pub taken-is : {A : Type 0} (z : A) (o : Outcome A) → verdictOf o ≡ Taken → o ≡ good (valueOf z o) (nextOf o)
-unfolding verdictOf valueOf nextOf
+unfolding verdictOf leaves nextOf
 taken-is z (good v p) e = refl
 taken-is z (bad n p) e = let z : _≡_ {A = ℕ} 0 1 = cc in absurd (never z)
 
@@ -28,6 +28,43 @@ pub refused-is : {A : Type 0} (o : Outcome A) (m q : ℕ) → verdictOf o ≡ Re
 unfolding verdictOf
 refused-is (good v p) m q e = let z : _≡_ {A = ℕ} 0 1 = cc in absurd (never z)
 refused-is (bad n p) m q e = cc
+
+-- ---- what a call leaves
+
+pub leaves-good : {A B : Type 0} (made : A → B) (before : B) (a : A) (p : ℕ) → leaves made before (good a p) ≡ made a
+unfolding leaves
+leaves-good made before a p = refl
+
+pub leaves-bad : {A B : Type 0} (made : A → B) (before : B) (n p : ℕ) → leaves made before (bad n p) ≡ before
+unfolding leaves
+leaves-bad made before n p = refl
+
+-- a call that is refused leaves what stood there
+pub leaves-refused : {A B : Type 0} (made : A → B) (before : B) (o : Outcome A) (n p : ℕ) → o ≡ bad n p → leaves made before o ≡ before
+leaves-refused made before o n p e = ap (leaves made before) e ∙ leaves-bad made before n p
+
+-- what an outcome is made into says the same
+module _ {A C : Type 0} (f : A → C) (o : Outcome A) where
+  abbrev turned : Outcome A → Outcome C
+  turned o = next o (λ a p. good (f a) p)
+
+  pub leaves-turned : {B : Type 0} (made : C → B) (before : B) → leaves made before (turned o) ≡ leaves (λ (a : A). made (f a)) before o
+  unfolding leaves
+  leaves-turned made before = go o
+    where
+      go : (o : Outcome A) → leaves made before (turned o) ≡ leaves (λ (a : A). made (f a)) before o
+      go (good a p) = refl
+      go (bad n p) = refl
+
+  pub verdict-turned : verdictOf (turned o) ≡ verdictOf o
+  unfolding verdictOf
+  verdict-turned = go o
+    where
+      go : (o : Outcome A) → verdictOf (turned o) ≡ verdictOf o
+      go (good a p) = refl
+      go (bad n p) = refl
+
+-- ---- readings one after the other
 
 -- good after another: so was the other
 pub next-good : {A B : Type 0} (o : Outcome A) (k : A → ℕ → Outcome B) (b : B) (q : ℕ) → next o k ≡ good b q

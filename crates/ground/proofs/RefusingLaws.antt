@@ -89,6 +89,16 @@ module _ {A : Type 0} where
           inl (rw (← m, f .whole) (map-mem (λ (u : Test). u .number) (Memᴰ·append-right (f .before) (List·Memᴰ·head refl))))
       go (inr (none, k)) = inr k
 
+-- where no test fails, each passes
+pub each-passes : (ts : List Test) → someFail ts ≡ false → Every (λ (t : Test). t .fails ≡ false) ts
+each-passes [] h = tt
+each-passes (t ∷ ts) h = go (t .fails) refl h (each-passes ts)
+  where
+    go : (b : Bool) → t .fails ≡ b → (b || someFail ts) ≡ false → (someFail ts ≡ false → Every (λ (t : Test). t .fails ≡ false) ts)
+        → Every (λ (t : Test). t .fails ≡ false) (t ∷ ts)
+    go true e k rest = absurd (false≢true (sym k))
+    go false e k rest = (e, rest k)
+
 -- ---- tests judged alone
 
 refused-by : {A : Type 0} (o : Outcome A) (ts : List Test) (m q : ℕ) → Refused m q ≡ judgement ts → judged ts o ≡ bad m q
@@ -136,6 +146,26 @@ refusal-listed {A} (t ∷ ts) v p n q z h = go (t .fails) h (refusal-listed ts v
         let place : q ≡ t .position = cc in
         (List·Memᴰ·head same, place ∙ z .0)
     go false h ih = let (m, e) = ih h in (List·Memᴰ·tail m, e)
+
+-- where every test has position 0, a refusal has the number of a test and position 0, or is that of what comes after
+pub refusal-or : {A : Type 0} (ts : List Test) (o : Outcome A) (n q : ℕ) → Every (λ (t : Test). t .position ≡ 0) ts → judged ts o ≡ bad n q
+    → (List·Memᴰ n (map (λ (t : Test). t .number) ts) × (q ≡ 0)) ⊎ (o ≡ bad n q)
+refusal-or [] o n q z h = inr h
+refusal-or {A} (t ∷ ts) o n q z h = go (t .fails) h (refusal-or ts o n q (z .1))
+  where
+    Told : List Test → Type 0
+    Told ts = (List·Memᴰ n (map (λ (t : Test). t .number) ts) × (q ≡ 0)) ⊎ (o ≡ bad n q)
+
+    later : Told ts → Told (t ∷ ts)
+    later (inl (m, e)) = inl (List·Memᴰ·tail m, e)
+    later (inr e) = inr e
+
+    go : (b : Bool) → pick b (bad (t .number) (t .position)) (judged ts o) ≡ bad n q → (judged ts o ≡ bad n q → Told ts) → Told (t ∷ ts)
+    go true h ih =
+        let same : n ≡ t .number = cc in
+        let place : q ≡ t .position = cc in
+        inl (List·Memᴰ·head same, place ∙ z .0)
+    go false h ih = later (ih h)
 
 -- one test after the other
 pub judge-fail : (t : Test) (ts : List Test) → t .fails ≡ true → Refused (t .number) (t .position) ≡ judgement (t ∷ ts)

@@ -37,6 +37,12 @@ unfoldable pub nextOf : {A : Type 0} → Outcome A → ℕ
 nextOf (good v p) = p
 nextOf (bad n p) = 0
 
-unfoldable pub valueOf : {A : Type 0} → A → Outcome A → A
-valueOf z (good v p) = v
-valueOf z (bad n p) = z
+-- "A refusal writes nothing anywhere and changes no end": what stands afterwards where something stood before a call,
+-- by what is made of it where the call is taken
+unfoldable pub leaves : {A B : Type 0} → (A → B) → B → Outcome A → B
+leaves made before (good v p) = made v
+leaves made before (bad n p) = before
+
+-- the value itself, or z
+abbrev pub valueOf : {A : Type 0} → A → Outcome A → A
+valueOf z o = leaves (λ v. v) z o

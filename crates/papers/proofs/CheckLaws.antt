@@ -2,7 +2,7 @@
 use mathlib.Core.Path.{_≡_, refl, sym, ap, _∙_}
 use Prim.Native.Nat.{ℕ}
 use lib.ListN.{length}
-use Rattle.ground.specs.Outcome.{Outcome, next, nextOf, verdictOf, valueOf}
+use Rattle.ground.specs.Outcome.{Outcome, next, nextOf, verdictOf, valueOf, leaves}
 use Rattle.ground.specs.Outcome.Outcome.{good, bad}
 use Rattle.ground.specs.declared.Verdict.the-variants.{Taken, Refused}
 use Rattle.ground.proofs.OutcomeLaws.{taken-is, refused-is, next-good}
@@ -30,7 +30,7 @@ papers-refused o x m q e g = refused-is o m q (sym (ap (λ (c : PapersRead). c .
 
 pub papers-none : (m q : ℕ) (e : Envelope) (p : Program) → e ≡ noEnvelope → p ≡ noProgram
     → record { verdict = Refused m q; papers = record { envelope = e; program = p } } ≡ shownPapers (bad m q)
-unfolding verdictOf valueOf
+unfolding verdictOf leaves
 papers-none m q e p f g = rw (f, g) refl
 
 pub papers-sound : (e : Envelope) (p : Program) (q : Papers) (u : ℕ) → papersOf e p ≡ good q u → GoodPapers q
@@ -87,7 +87,7 @@ module _ (e : Envelope) (p : Program) (c : EnvelopeRead) (g : c ≡ shownEnvelop
 
       pub papers-good : x .verdict ≡ Taken
           → record { verdict = Taken; papers = record { envelope = c .envelope; program = x .program } } ≡ shownPapers (papersOf e p)
-      unfolding verdictOf valueOf
+      unfolding verdictOf leaves
       papers-good v = simp (as-papers, program-taken (programAgainst (c .envelope) (programBytes p)) x k v)
 
 -- ---- the program alone: what the papers answer, without the envelope
@@ -99,13 +99,13 @@ abbrev second : Outcome Papers → ProgramRead
 second o = record { verdict = verdictOf o; program = valueOf noPapers o .program }
 
 with-envelope : (f : Envelope) (x : Outcome Program) → second (next x (both f)) ≡ shownProgram x
-unfolding verdictOf valueOf
+unfolding verdictOf leaves
 with-envelope f (good q v) = refl
 with-envelope f (bad n v) = refl
 
 alone : (o : Outcome Envelope) (read : Envelope → Outcome Program)
     → second (next o (λ f _. next (read f) (both f))) ≡ shownProgram (next o (λ f _. read f))
-unfolding verdictOf valueOf
+unfolding verdictOf leaves
 alone (bad n u) read = refl
 alone (good f u) read = with-envelope f (read f)
 

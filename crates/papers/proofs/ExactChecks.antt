@@ -20,7 +20,7 @@ use Rattle.envelopes.specs.Fits.{Fits}
 use Rattle.contents.specs.declared.envelope.Envelope.{Envelope}
 use Rattle.envelopes.proofs.ExactStructs.{place-tells}
 use Rattle.paths.specs.Steps.{step, legal, stepBytes}
-use Rattle.papers.specs.Programs.{stepsOf, programWith, SJP, readProgram, programBytes, checkProgram, programWritten, programWrittenIn, Acceptable, tidyProgram}
+use Rattle.papers.specs.Programs.{stepsOf, programWith, SJP, readProgram, programBytes, checkProgram, writeProgramOf, programWritten, programWrittenIn, Acceptable, tidyProgram}
 use Rattle.papers.specs.Fits.{StepFits, ProgramFits}
 use Rattle.paths.specs.declared.steps.Step.{Step}
 use Rattle.papers.specs.declared.programs.Program.{Program}
@@ -100,7 +100,7 @@ check-exact e fits p r q h = (sound, complete)
 -- What the writer leaves in the buffer, as far as the length that it answers, reads as the program that was written.
 pub program-written-back : (e : Envelope) → Fits e → (p : Program) → ProgramFits p → (out : List ℕ) (n : ℕ) → programWritten e p out ≡ Length n
     → readProgram e (take n (programWrittenIn e p out)) ≡ good (tidyProgram p) n
-unfolding checkProgram
+unfolding checkProgram writeProgramOf
 program-written-back e fits p h out n w =
     let (r, q, c, long, same) = written-back (checkProgram e p) (programBytes p) out n w in
     let (within, acceptable, is, end) = check-exact e fits p r q h .0 c in

@@ -7,7 +7,7 @@ use mathlib.Core.List.{List}
 use mathlib.Core.Bool.{Bool, true, false}
 use lib.ListN.{length, getD, set, replicate}
 use borrow.Author.Tests.{lt-ltb, le-ltb}
-use Rattle.ground.specs.Outcome.{Outcome, next, verdictOf, nextOf, valueOf}
+use Rattle.ground.specs.Outcome.{Outcome, next, verdictOf, nextOf, leaves}
 use Rattle.ground.specs.Outcome.Outcome.{good, bad}
 use Rattle.ground.specs.declared.Verdict.the-variants.{Taken, Refused}
 use Rattle.ground.proofs.OutcomeLaws.{never, taken-is, refused-is}
@@ -15,11 +15,11 @@ use Rattle.ground.proofs.FillingLaws.{Filling, filling-start, filling-more, fil
 use Rattle.fields.specs.Numbers.{numberAt, numberThat, numberIn, headOf, shownNumber}
 use Rattle.fields.specs.declared.numbers.NumberRead.{NumberRead}
 use Rattle.fields.specs.declared.numbers.NumberRead.the-variants as n
-use Rattle.fields.specs.Puts.{frontOf, frontIn}
+use Rattle.fields.specs.Puts.{fitted}
 use Rattle.fields.specs.declared.puts.Written.{Written}
 use Rattle.fields.specs.declared.puts.Written.the-variants as w
 use Rattle.fields.proofs.NumberLaws.{number-good, number-bad, at-good, one-byte}
-use Rattle.fields.proofs.PutLaws.{written-refused, written-front}
+use Rattle.fields.proofs.PutLaws.{Writes, written-refused, written-front}
 use Rattle.entries.specs.Places.{placeAt, shownPlace}
 use Rattle.contents.specs.Sites.{holds}
 use Rattle.entries.specs.declared.places.Place.{Place}
@@ -34,7 +34,7 @@ use Rattle.envelopes.proofs.ExactEnvelope.{check-sound}
 use Rattle.envelopes.specs.Rules.{Within}
 use Rattle.paths.specs.Labels.{labelsOf, byLabels}
 use Rattle.paths.specs.Steps.{step, legalBy}
-use Rattle.papers.specs.Programs.{noStep, noProgram, SJP, stepAt, endedProgram, stepsFrom, stepsThen, programBy, programAgainst, readProgram, programBytes, checkProgram, programWritten, programWrittenIn, shownStep, shownProgram}
+use Rattle.papers.specs.Programs.{noStep, noProgram, SJP, stepAt, endedProgram, stepsFrom, stepsThen, programBy, programAgainst, readProgram, programBytes, checkProgram, writeProgramOf, programWritten, programWrittenIn, shownStep, shownProgram}
 use Rattle.paths.specs.declared.labels.Labels.{Labels}
 use Rattle.paths.specs.declared.steps.Step.{Step}
 use Rattle.papers.specs.declared.programs.Program.{Program}
@@ -62,7 +62,7 @@ pub program-refused : (o : Outcome Program) (x : ProgramRead) (m q : ℕ) → x 
 program-refused o x m q e g = refused-is o m q (sym (ap (λ (c : ProgramRead). c .verdict) e) ∙ g)
 
 pub program-none : (m q : ℕ) (z : Program) → z ≡ noProgram → record { verdict = Refused m q; program = z } ≡ shownProgram (bad m q)
-unfolding verdictOf valueOf
+unfolding verdictOf leaves
 program-none m q z e = ap (λ (x : Program). record { verdict = Refused m q; program = x }) e
 
 module _ (lawful : Step → Bool) (e : Envelope) (s : List ℕ) where
@@ -131,7 +131,7 @@ module _ (lawful : Step → Bool) (e : Envelope) (s : List ℕ) where
 
       pub steps-done : length s ≤ p
           → record { verdict = Taken; program = record { site = site; count = n; steps = out } } ≡ shownProgram (stepsFrom lawful e s site n at)
-      unfolding endedProgram verdictOf valueOf
+      unfolding endedProgram verdictOf leaves
       steps-done k =
           simp (
             filling-good 156 noStep (stepAt lawful e s) n at i p out f h,
@@ -217,8 +217,10 @@ against-is e w a l b x f h y =
 
 module _ (e : Envelope) (a : Program) (out : List ℕ) (c : ProgramRead) (g : c ≡ shownProgram (checkProgram e a)) where
   pub write-refused : (m q : ℕ) → c .verdict ≡ Refused m q → (w.Refused m q ≡ programWritten e a out) × (out ≡ programWrittenIn e a out)
+  unfolding writeProgramOf
   write-refused m q v = written-refused (checkProgram e a) (programBytes a) out m q (program-refused (checkProgram e a) c m q g v)
 
   pub write-front : (l after : List ℕ) (x : Written) → c .verdict ≡ Taken → l ≡ programBytes a
-      → (x ≡ frontOf l out) × (after ≡ frontIn l out) → (x ≡ programWritten e a out) × (after ≡ programWrittenIn e a out)
+      → Writes 0 out (fitted (length out) l) x after → (x ≡ programWritten e a out) × (after ≡ programWrittenIn e a out)
+  unfolding writeProgramOf
   write-front l after x v h y = written-front (checkProgram e a) (programBytes a) out _ _ l after x (program-taken (checkProgram e a) c g v) h y

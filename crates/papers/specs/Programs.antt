@@ -15,7 +15,7 @@ use Rattle.ground.specs.Outcome.Outcome.{good, bad}
 use Rattle.ground.specs.Bytes.{bytesOf}
 use Rattle.fields.specs.Refusals.{leftOver, notLegal}
 use Rattle.fields.specs.Numbers.{numberIn, numberThat, headOf}
-use Rattle.fields.specs.Puts.{writtenOf, writtenIn}
+use Rattle.fields.specs.Puts.{fitted, writtenOf, writtenIn}
 use Rattle.fields.specs.declared.puts.Written.{Written}
 use Rattle.entries.specs.Places.{noPlace, placeAt}
 use Rattle.contents.specs.Sites.{holds}
@@ -86,12 +86,15 @@ programBytes p = SJP ++ bytesOf 2 1 ++ bytesOf 1 (p .site) ++ bytesOf 1 (p .coun
 unfoldable pub checkProgram : Envelope → Program → Outcome Program
 checkProgram e p = readProgram e (programBytes p)
 
--- writing it: the envelope, then the program, is checked first, then 11
+-- writing it into so much room: the envelope, then the program, is checked first, then 11
+unfoldable pub writeProgramOf : Envelope → Program → ℕ → Outcome (List ℕ)
+writeProgramOf e p room = next (checkProgram e p) (λ _ _. fitted room (programBytes p))
+
 abbrev pub programWritten : Envelope → Program → List ℕ → Written
-programWritten e p out = writtenOf (checkProgram e p) (programBytes p) out
+programWritten e p out = writtenOf (writeProgramOf e p (length out))
 
 abbrev pub programWrittenIn : Envelope → Program → List ℕ → List ℕ
-programWrittenIn e p out = writtenIn (checkProgram e p) (programBytes p) out
+programWrittenIn e p out = writtenIn out (writeProgramOf e p (length out))
 
 -- what the functions answer
 unfoldable pub shownStep : Outcome Step → StepRead
