@@ -6,7 +6,6 @@ use mathlib.Core.List.{List, [], _∷_, _++_, List·Memᴰ}
 use mathlib.Core.Logic.{_↔_}
 use Prim.Native.Nat.{ℕ, _+_, _≤_, _<_}
 use lib.ListN.{length}
-use lib.Seq.{sets}
 use lib.Dec.{leb}
 use borrow.Author.Tests.{leb-true, le-leb, lt-ltb, le-ltb}
 use Rattle.ground.specs.Outcome.{Outcome}
@@ -22,8 +21,7 @@ use Rattle.tables.specs.Offsets.{rowCount}
 use Rattle.tables.specs.Shape.{shaped, marksTests, columnTests}
 use Rattle.tables.specs.Rows.{wordOf, keptAt}
 use Rattle.tables.specs.Rising.{among}
-use Rattle.tables.specs.Values.{valuesOf, risingValues, occursIn, roomTest, valuesOutcome, gatheredOf, gatheredIn}
-use Rattle.tables.specs.declared.values.Gathered.the-variants as g
+use Rattle.tables.specs.Values.{valuesOf, risingValues, occursIn, roomTest, valuesOutcome}
 use Rattle.tables.proofs.ValueLaws.{values-are}
 
 -- ---- a call that begins with 10, 11: of any tests and effect behind them
@@ -64,29 +62,11 @@ module _ (e : Envelope) (a : Place) (words marks : List ℕ) (start : ℕ) (out 
         values-narrow k =
             then-rest e words (length marks) valuesTests (good found 0) s h ∙ rw (c, lt-ltb (length out) (start + length found) k)
 
-        module _ (k : start + length (risingValues e words marks a) ≤ length out) where
-          pub values-taken : valuesOutcome e words marks a start out ≡ good (risingValues e words marks a) 0
-          unfolding valuesOutcome
-          values-taken =
-              then-rest e words (length marks) valuesTests (good found 0) s h ∙ rw (c, le-ltb (length out) (start + length found) k)
-
-          pub values-length : gatheredOf (valuesOutcome e words marks a start out) ≡ g.Length (length (risingValues e words marks a))
-          unfolding gatheredOf
-          values-length = rw values-taken
-
-          pub values-buffer : gatheredIn start out (valuesOutcome e words marks a start out) ≡ sets out start (risingValues e words marks a)
-          unfolding gatheredIn
-          values-buffer = rw values-taken
-
-  -- a refusal, as it is answered
-  module _ (n p : ℕ) (h : valuesOutcome e words marks a start out ≡ bad n p) where
-    pub values-refused : gatheredOf (valuesOutcome e words marks a start out) ≡ g.Refused n p
-    unfolding gatheredOf
-    values-refused = rw h
-
-    pub values-stay : gatheredIn start out (valuesOutcome e words marks a start out) ≡ out
-    unfolding gatheredIn
-    values-stay = rw h
+        pub values-taken : start + length (risingValues e words marks a) ≤ length out
+            → valuesOutcome e words marks a start out ≡ good (risingValues e words marks a) 0
+        unfolding valuesOutcome
+        values-taken k =
+            then-rest e words (length marks) valuesTests (good found 0) s h ∙ rw (c, le-ltb (length out) (start + length found) k)
 
 -- a value occurs, where tables, marks and column are right, as it is among the column's values
 module _ (e : Envelope) (a : Place) (words marks : List ℕ) (x : ℕ) where
