@@ -25,7 +25,7 @@ use Rattle.papers.specs.declared.checks.Papers.{Papers}
 use Rattle.tables.specs.Offsets.{rowCount}
 use Rattle.tables.specs.Shape.{shaped, marksTests, columnTests}
 use Rattle.tables.specs.Rising.{isRising}
-use Rattle.semijoin.specs.Marks.{reducedBy, reduceOutcome, reducedOf, marksAfter}
+use Rattle.semijoin.specs.Marks.{reducedBy, reduceOutcome, reducedOf}
 use Rattle.tables.specs.Values.{valuesOf}
 use Rattle.semijoin.specs.Local.{openedIn, openOutcome}
 use Rattle.semijoin.specs.Run.{stepped, steppedAll, runMarks, runChecked, runOutcome}
@@ -36,7 +36,7 @@ use Rattle.tables.proofs.TidyLaws.{tidy-shaped, tidy-row-count}
 use Rattle.semijoin.proofs.RunLaws.{run-length, run-past, step-answer, run-answer, run-outcome, run-exact}
 use Rattle.semijoin.proofs.TidyLaws.{tidy-opened}
 
--- ---- the answer and the marks of an outcome that is known
+-- ---- the answer of an outcome that is known
 
 answers-removed : (n : ℕ) (after : List ℕ) (p : ℕ) → reducedOf n (good after p) ≡ Removed n
 unfolding reducedOf
@@ -45,14 +45,6 @@ answers-removed n after p = refl
 answers-refused : (n m p : ℕ) → reducedOf n (bad m p) ≡ Refused m p
 unfolding reducedOf
 answers-refused n m p = refl
-
-marks-set : (marks after : List ℕ) (p : ℕ) → marksAfter marks (good after p) ≡ after
-unfolding marksAfter
-marks-set marks after p = refl
-
-marks-kept : (marks : List ℕ) (n p : ℕ) → marksAfter marks (bad n p) ≡ marks
-unfolding marksAfter
-marks-kept marks n p = refl
 
 -- a call that checks its papers first refuses by their refusal, or by 10 or 11 at 0
 papers-first : {A B : Type 0} (o : Outcome A) (f : A → Envelope) (effect : A → B) (words : List ℕ) (n m q : ℕ)
@@ -212,6 +204,4 @@ call-promise =
       run-exact = run-exact;
       answers-removed = answers-removed;
       answers-refused = answers-refused;
-      marks-set = marks-set;
-      marks-kept = marks-kept;
     }

@@ -5,7 +5,7 @@ use mathlib.Core.List.{List, [], _∷_}
 use Prim.Native.Nat.{ℕ}
 use Rattle.ground.specs.Figures.{Figure, figure, Hold}
 use Rattle.ground.specs.Lists.{each, padded, numbersFrom}
-use Rattle.ground.specs.Outcome.{numbered, nextOf}
+use Rattle.ground.specs.Outcome.{numbered, nextOf, valueOf, leaves}
 use Rattle.ground.specs.Bytes.{littleEnd, bytesOf}
 use Rattle.ground.specs.Searching.{firstFrom}
 use Rattle.ground.specs.Rising.{insert, rising}
@@ -30,7 +30,7 @@ use Rattle.paths.specs.Meaning.{Row, rowsIn, tablesIn, tablesOf, meetsAll, answ
 use Rattle.tables.specs.Offsets.{countIn, wordsBefore, rowsBefore, firstWord, rowsAt, marksAt, rowsOver, marksOver}
 use Rattle.tables.specs.Shape.{shaped}
 use Rattle.tables.specs.Rows.{keptOf, keptRows}
-use Rattle.semijoin.specs.Marks.{sieved, reducedBy, removedOf, removedBy, marksAfter, sievedOver, removedOver}
+use Rattle.semijoin.specs.Marks.{sieved, reducedBy, removedOf, removedBy, sievedOver, removedOver}
 use Rattle.tables.specs.Values.{valuesOf, risingValues, valuesOver}
 use Rattle.semijoin.specs.Local.{passesBy, passes, openedAt, opened, openedIn, openingMark}
 use Rattle.semijoin.specs.Run.{stepped, steppedAll, runMarks, runChecked, runOutcome}
@@ -86,12 +86,12 @@ figures =
     ∷ figure (stepped onNumber couponWeigh (step (place 1 0) (place 0 0)) allKept) (1 ∷ 1 ∷ 1 ∷ 1 ∷ 1 ∷ 1 ∷ 0 ∷ 9 ∷ [])
     -- both envelopes are taken, each of 72 bytes; the whole run, with its refusals, of that one step
     ∷ figure (nextOf (checkEnvelope onNumber) ∷ nextOf (checkEnvelope onDate) ∷ []) (72 ∷ 72 ∷ [])
-    ∷ figure (marksAfter bytes (runOutcome onDate (programWith 1 (step (place 0 1) (place 1 1) ∷ [])) couponWeigh bytes)) (1 ∷ 1 ∷ 0 ∷ 1 ∷ 1 ∷ 1 ∷ 1 ∷ 9 ∷ [])
+    ∷ figure (valueOf bytes (runOutcome onDate (programWith 1 (step (place 0 1) (place 1 1) ∷ [])) couponWeigh bytes)) (1 ∷ 1 ∷ 0 ∷ 1 ∷ 1 ∷ 1 ∷ 1 ∷ 9 ∷ [])
     -- an empty list of values removes every row
     ∷ figure (reducedBy onDate couponWeigh [] (place 0 1) allKept) (0 ∷ 0 ∷ 0 ∷ 1 ∷ 1 ∷ 1 ∷ 1 ∷ 9 ∷ [])
     ∷ figure (removedBy onDate couponWeigh [] (place 0 1) allKept ∷ []) (3 ∷ [])
     ∷ []
 
 pub figures-hold : Hold figures
-unfolding numbered padded numbersFrom littleEnd bytesOf firstFrom insert rising numberAt numberThat marked markAt versionAt headOf samePlace placeAt placeBytes columnsOf columnAt columnBytes columnsThen relationAt relationBytes domainOf selectionAt joined joinAt clauseAt kindBytes sizesOf relationsOf clausesOf targetsOf columnsIn withVersion withSizes withRelations withClauses withTargets siteOf isAt holds names kept keptColumns firstBare ended filled listInto targetsThen clausesThen relationsThen sizesThen envelopeFrom envelopeBytes checkEnvelope edges onPath isPlace legalBy stepBytes constantsOf selectionsBy equalitiesBy stepsOf stepAt endedProgram stepsThen programBy readProgram programBytes checkProgram papersOf rowsIn tablesIn tablesOf meetsAll answerOn answerRows countIn wordsBefore rowsBefore firstWord rowsOver marksOver rowsAt marksAt keptOf keptRows sieved sievedOver reducedBy removedOf removedOver removedBy valuesOver valuesOf risingValues stepped nextOf shaped passesBy passes openingMark openedAt opened openedIn steppedAll runMarks runChecked runOutcome marksAfter
+unfolding numbered padded numbersFrom littleEnd bytesOf firstFrom insert rising numberAt numberThat marked markAt versionAt headOf samePlace placeAt placeBytes columnsOf columnAt columnBytes columnsThen relationAt relationBytes domainOf selectionAt joined joinAt clauseAt kindBytes sizesOf relationsOf clausesOf targetsOf columnsIn withVersion withSizes withRelations withClauses withTargets siteOf isAt holds names kept keptColumns firstBare ended filled listInto targetsThen clausesThen relationsThen sizesThen envelopeFrom envelopeBytes checkEnvelope edges onPath isPlace legalBy stepBytes constantsOf selectionsBy equalitiesBy stepsOf stepAt endedProgram stepsThen programBy readProgram programBytes checkProgram papersOf rowsIn tablesIn tablesOf meetsAll answerOn answerRows countIn wordsBefore rowsBefore firstWord rowsOver marksOver rowsAt marksAt keptOf keptRows sieved sievedOver reducedBy removedOf removedOver removedBy valuesOver valuesOf risingValues stepped nextOf shaped passesBy passes openingMark openedAt opened openedIn steppedAll runMarks runChecked runOutcome leaves
 figures-hold = refl

@@ -10,7 +10,7 @@ use lib.ListN.{length, getD, take, drop, replicate, length-take, length-replicat
 use lib.Seq.{sets, drop-cons, getD-take}
 use Rattle.ground.specs.Lists.{Every, below}
 use Rattle.ground.specs.Rising.{Rises}
-use Rattle.ground.specs.Outcome.{verdictOf, nextOf}
+use Rattle.ground.specs.Outcome.{verdictOf, nextOf, valueOf, leaves}
 use Rattle.ground.specs.Outcome.Outcome.{good}
 use Rattle.ground.specs.Refusing.{judgement}
 use Rattle.ground.specs.declared.Verdict.{Verdict}
@@ -20,7 +20,10 @@ use Rattle.ground.proofs.OutcomeLaws.{never}
 use Rattle.ground.proofs.EveryLaws.{every-getD}
 use Rattle.ground.proofs.NumbersLaws.{below-from}
 use Rattle.ground.proofs.RefusingLaws.{judge-refused, judge-taken}
-use Rattle.fields.proofs.PutLaws.{fresh-bytes}
+use Rattle.fields.specs.Puts.{writtenOf, writtenIn}
+use Rattle.fields.specs.declared.puts.Written.{Written}
+use Rattle.fields.specs.declared.puts.Written.the-variants as w
+use Rattle.fields.proofs.PutLaws.{writes-good, fresh-bytes}
 use Rattle.contents.specs.Parts.{relationCount}
 use Rattle.envelopes.specs.Rules.{Within}
 use Rattle.entries.specs.declared.places.Place.{Place}
@@ -35,23 +38,21 @@ use Rattle.paths.proofs.StepLaws.{legal-step}
 use Rattle.papers.proofs.CheckLaws.{papers-taken, papers-refused, papers-sound}
 use Rattle.tables.specs.Shape.{shaped, marksTests}
 use Rattle.semijoin.specs.Local.{openedAt, opened, openedIn}
-use Rattle.semijoin.specs.Marks.{reducedBy, marksAfter}
+use Rattle.semijoin.specs.Marks.{reducedBy}
 use Rattle.tables.specs.Offsets.{rowCount}
-use Rattle.tables.specs.Values.{valuesOf, risingValues, valuesOutcome, gatheredOf, gatheredIn}
-use Rattle.tables.specs.declared.values.Gathered.{Gathered}
-use Rattle.tables.specs.declared.values.Gathered.the-variants as g
+use Rattle.tables.specs.Values.{valuesOf, risingValues, valuesOutcome}
 use Rattle.semijoin.specs.Run.{stepped, steppedAll, runMarks, runChecked, runOutcome}
 use Rattle.tables.proofs.ShapeLaws.{shaped-shape}
 use Rattle.tables.proofs.ValueLaws.{values-rise, no-more-values}
-use Rattle.tables.proofs.CallLaws.{values-length, values-buffer}
+use Rattle.tables.proofs.CallLaws.{values-taken}
 use Rattle.semijoin.proofs.PromiseLaws.{promise}
 use Rattle.semijoin.proofs.CallCodeLaws.{after-refused, after-taken}
 
 -- ---- a step, by a column's rising values: a buffer of 4,096 takes them all, so that gathering them is not refused
 
 module _ (e : Envelope) (words marks : List ℕ) (right : Place) (size : ℕ) (h : 4096 ≤ size) (t : shaped e words ≡ true)
-    (room : rowCount e words ≤ length marks) (gathered : Gathered)
-    (f : gathered ≡ gatheredOf (valuesOutcome e words marks right 0 (replicate size 0))) (p : isPlace e right ≡ true) where
+    (room : rowCount e words ≤ length marks) (gathered : Written)
+    (f : gathered ≡ writtenOf (valuesOutcome e words marks right 0 (replicate size 0))) (p : isPlace e right ≡ true) where
   abbrev rising : List ℕ
   rising = risingValues e words marks right
 
@@ -67,20 +68,24 @@ module _ (e : Envelope) (words marks : List ℕ) (right : Place) (size : ℕ) (h
       let long : length fresh ≡ size = length-replicate size zero in
       omega (arith, few)
 
-  is-length : gathered ≡ g.Length (length rising)
-  is-length = f ∙ values-length e right words marks 0 fresh t room p fits
+  writes : (w.Length (length rising) ≡ writtenOf (valuesOutcome e words marks right 0 fresh))
+      × (sets fresh 0 rising ≡ writtenIn fresh (valuesOutcome e words marks right 0 fresh))
+  writes = writes-good 0 fresh _ rising 0 (length rising) _ (values-taken e right words marks 0 fresh t room p fits) refl refl
 
-  pub step-refused : (m q : ℕ) → gathered ≡ g.Refused m q → ⊥
+  is-length : gathered ≡ w.Length (length rising)
+  is-length = f ∙ sym (writes .0)
+
+  pub step-refused : (m q : ℕ) → gathered ≡ w.Refused m q → ⊥
   step-refused m q k = let z : _≡_ {A = ℕ} 0 1 = cc is-length in never z
 
-  module _ (values : List ℕ) (b : values ≡ gatheredIn 0 (replicate size 0) (valuesOutcome e words marks right 0 (replicate size 0)))
-      (n : ℕ) (k : gathered ≡ g.Length n) where
+  module _ (values : List ℕ) (b : values ≡ writtenIn (replicate size 0) (valuesOutcome e words marks right 0 (replicate size 0)))
+      (n : ℕ) (k : gathered ≡ w.Length n) where
     count : n ≡ length rising
     count = cc is-length
 
     found : take n values ≡ risingValues e words marks right
     found =
-        let stands = b ∙ values-buffer e right words marks 0 fresh t room p fits in
+        let stands = b ∙ sym (writes .1) in
         fresh-bytes size size rising n values (count, stands, omega (arith, few, count)) (omega arith)
 
     pub step-fits : n ≤ size
@@ -157,7 +162,7 @@ module _ (e : Envelope) (words : List ℕ) (l : List Step) (n : ℕ) (before : L
 
 module _ (e : Envelope) (p : Program) (words marks : List ℕ) where
   abbrev Ran : Verdict → List ℕ → Type 0
-  Ran v after = (v ≡ verdictOf (runChecked e p words marks)) × (after ≡ marksAfter marks (runChecked e p words marks))
+  Ran v after = (v ≡ verdictOf (runChecked e p words marks)) × (after ≡ valueOf marks (runChecked e p words marks))
 
   everywhere : openedIn e words (λ r. getD (replicate 8 true) r false) marks ≡ openedIn e words (λ _. true) marks
   unfolding openedIn opened
@@ -195,10 +200,10 @@ module _ (e : Envelope) (p : Program) (words marks : List ℕ) where
 
 module _ (e : Envelope) (p : Program) (words marks : List ℕ) (x : PapersRead) (g : x ≡ shownPapers (papersOf e p)) where
   abbrev RanWhole : Verdict → List ℕ → Type 0
-  RanWhole v after = (v ≡ verdictOf (runOutcome e p words marks)) × (after ≡ marksAfter marks (runOutcome e p words marks))
+  RanWhole v after = (v ≡ verdictOf (runOutcome e p words marks)) × (after ≡ valueOf marks (runOutcome e p words marks))
 
   pub run-papers : (m q : ℕ) → x .verdict ≡ Refused m q → RanWhole (Refused m q) marks
-  unfolding runOutcome verdictOf marksAfter
+  unfolding runOutcome verdictOf leaves
   run-papers m q h = rw (papers-refused (papersOf e p) x m q g h) (refl, refl)
 
   module _ (h : x .verdict ≡ Taken) where
@@ -219,5 +224,5 @@ module _ (e : Envelope) (p : Program) (words marks : List ℕ) (x : PapersRead) 
     as-run = rw taken
 
     pub run-good : (r : Verdict) (after : List ℕ) → r ≡ verdictOf (runChecked (x .papers .envelope) (x .papers .program) words marks)
-        → after ≡ marksAfter marks (runChecked (x .papers .envelope) (x .papers .program) words marks) → RanWhole r after
+        → after ≡ valueOf marks (runChecked (x .papers .envelope) (x .papers .program) words marks) → RanWhole r after
     run-good r after a b = rw as-run (a, b)

@@ -27,7 +27,7 @@ use Rattle.tables.specs.Rising.{isRising}
 use Rattle.tables.specs.Rows.{answerKept}
 use Rattle.tables.specs.Values.{valuesOf}
 use Rattle.semijoin.specs.Local.{openedIn, openOutcome}
-use Rattle.semijoin.specs.Marks.{reducedBy, reduceOutcome, reducedOf, marksAfter}
+use Rattle.semijoin.specs.Marks.{reducedBy, reduceOutcome, reducedOf}
 use Rattle.semijoin.specs.Run.{stepped, steppedAll, runMarks, runOutcome}
 use Rattle.semijoin.specs.declared.marks.Reduced.the-variants.{Removed, Refused}
 
@@ -89,9 +89,7 @@ pub record CallPromise : Type 0 where
   pub run-exact : (e : Envelope) (p : Program) (words marks : List ℕ) → Fits e → ProgramFits p → (after : List ℕ) (q : ℕ)
       → (runOutcome e p words marks ≡ good after q)
       ↔ (Within e × Acceptable e p × (shaped e words ≡ true) × (rowCount e words ≤ length marks) × (after ≡ runMarks e p words marks) × (q ≡ 0))
-  -- ---- what a call answers, and the marks afterwards: a refusal leaves them
+  -- ---- what reducing answers
 
   pub answers-removed : (n : ℕ) (after : List ℕ) (p : ℕ) → reducedOf n (good after p) ≡ Removed n
   pub answers-refused : (n m p : ℕ) → reducedOf n (bad m p) ≡ Refused m p
-  pub marks-set : (marks after : List ℕ) (p : ℕ) → marksAfter marks (good after p) ≡ after
-  pub marks-kept : (marks : List ℕ) (n p : ℕ) → marksAfter marks (bad n p) ≡ marks

@@ -60,8 +60,3 @@ reduceOutcome e words values a marks =
 unfoldable pub reducedOf : ℕ → Outcome (List ℕ) → Reduced
 reducedOf n (good after p) = Removed n
 reducedOf n (bad m p) = Refused m p
-
--- the marks after a call that sets them: as they were where it is refused
-unfoldable pub marksAfter : List ℕ → Outcome (List ℕ) → List ℕ
-marksAfter marks (good after p) = after
-marksAfter marks (bad n p) = marks

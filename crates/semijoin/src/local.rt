@@ -14,13 +14,12 @@ ghost use lib.ListN.{length, getD, take};
 ghost use lib.Seq.{sets};
 ghost use lib.Dec.{eqb};
 ghost use Rattle.ground.specs.Lists.{any};
-ghost use Rattle.ground.specs.Outcome.{verdictOf};
+ghost use Rattle.ground.specs.Outcome.{verdictOf, valueOf};
 ghost use Rattle.envelopes.specs.Rules.{Within};
 ghost use Rattle.tables.specs.Offsets.{rowCount, rowsOver};
 ghost use Rattle.tables.specs.Shape.{shaped};
 ghost use Rattle.tables.specs.Rows.{wordOver};
 ghost use Rattle.semijoin.specs.Local.{openedIn, openOutcome, openingMark};
-ghost use Rattle.semijoin.specs.Marks.{marksAfter};
 
 fn breaks_selection(tables: &[u32], extent: Extent, row: usize, selected: Selected) -> bool
     ensures { λ r. ⌜ r ≡ not (eqb (wordOver extent (now (tables .entry)) row (selected .column)) (selected .value)) ⌝ }
@@ -137,7 +136,7 @@ pub(crate) fn open_all(envelope: Envelope, tables: &[u32], here: [bool; 8], mark
 
 // The same for any envelope, tables and marks: the envelope is checked, then 10, 11.
 pub fn open_marks(envelope: Envelope, tables: &[u32], here: [bool; 8], marks: &mut [u8]) -> Verdict
-    ensures { λ r. ⌜ (r ≡ verdictOf (openOutcome envelope (now (tables .entry)) (λ r. getD here r false) (now (marks .entry)))) × (now (marks .exit) ≡ marksAfter (now (marks .entry)) (openOutcome envelope (now (tables .entry)) (λ r. getD here r false) (now (marks .entry)))) ⌝ }
+    ensures { λ r. ⌜ (r ≡ verdictOf (openOutcome envelope (now (tables .entry)) (λ r. getD here r false) (now (marks .entry)))) × (now (marks .exit) ≡ valueOf (now (marks .entry)) (openOutcome envelope (now (tables .entry)) (λ r. getD here r false) (now (marks .entry)))) ⌝ }
 {
     let read = envelopes::reading::check_envelope(envelope);
     let verdict = read.verdict;
