@@ -1,7 +1,6 @@
 -- The laws of the definitions in specs/, file by file under the same names; those that only returns of functions cite have Code in
 -- their names. Stays is of ends that calls hand on, Made and Delivered of what is made at one end and comes to another, Room of
 -- the store.
-pub mod CallLaws
 pub mod OpeningCodeLaws
 pub mod MakingCodeLaws
 pub mod NextCodeLaws

@@ -19,6 +19,10 @@ use Rattle.ground.proofs.OutcomeLaws.{never}
 use Rattle.ground.proofs.TestLaws.{and-left}
 use Rattle.ground.proofs.RefusingLaws.{judge-refused, judge-passed, judge-taken, judge-fail, judge-pass, judge-none}
 use Rattle.fields.specs.Refusals.{tooShort, waiting, notOurs}
+use Rattle.fields.specs.Puts.{fitted, writtenOf, writtenFrom}
+use Rattle.fields.specs.declared.puts.Written.{Written}
+use Rattle.fields.specs.declared.puts.Written.the-variants.{Length, Refused}
+use Rattle.fields.proofs.PutLaws.{Writes, writes-bad, writes-good, writes-same, fitted-short, fitted-fits}
 use Rattle.contents.specs.Sites.{isAt}
 use Rattle.contents.specs.declared.envelope.Envelope.{Envelope}
 use Rattle.entries.specs.declared.places.Place.{Place}
@@ -30,50 +34,19 @@ use Rattle.papers.specs.declared.checks.Papers.{Papers}
 use Rattle.papers.specs.declared.checks.PapersRead.{PapersRead}
 use Rattle.tables.specs.Offsets.{rowCount}
 use Rattle.tables.specs.Shape.{shaped}
-use Rattle.tables.specs.Values.{risingValues, valuesOutcome, gatheredOf, gatheredIn}
-use Rattle.tables.specs.declared.values.Gathered.{Gathered}
-use Rattle.tables.specs.declared.values.Gathered.the-variants as g
+use Rattle.tables.specs.Values.{risingValues, valuesOutcome}
 use Rattle.tables.proofs.ShapeLaws.{shaped-shape}
-use Rattle.tables.proofs.CallLaws.{values-narrow, values-length, values-buffer, values-refused, values-stay}
+use Rattle.tables.proofs.CallLaws.{values-narrow, values-taken}
 use Rattle.tables.proofs.ValueLaws.{no-more-values}
 use Rattle.ends.specs.Reducing.{stepCount, stepOf, isMissing, firstMissing, missingOf}
-use Rattle.station.specs.Calls.{leaves}
 use Rattle.ends.specs.Ends.{usable, Usable}
 use Rattle.ends.specs.Messages.{valueMessage}
-use Rattle.station.specs.Making.{sendTests, fitted, valuesWith, makeValuesOf, shownMade, madeIn}
+use Rattle.station.specs.Making.{sendTests, valuesWith, makeValuesOf}
 use Rattle.ends.specs.declared.ends.End.{End}
 use Rattle.ends.specs.declared.reducing.Missing.{Missing}
 use Rattle.ends.specs.declared.reducing.Missing.the-variants.{First, None}
-use Rattle.station.specs.declared.making.Made.{Made}
-use Rattle.station.specs.declared.making.Made.the-variants.{Length, Refused}
 use Rattle.ends.proofs.ReducingLaws.{missing-first, missing-not}
 use Rattle.ends.proofs.EndLaws.{step-legal, call-refused, call-with}
-
--- ---- an outcome as the answer and the buffer afterwards
-
-abbrev pub Makes : List ℕ → Outcome (List ℕ) → Made → List ℕ → Type 0
-Makes out o z after = (z ≡ shownMade o) × (after ≡ madeIn out o)
-
-module _ (out : List ℕ) (o : Outcome (List ℕ)) where
-  pub makes-bad : (m p : ℕ) → o ≡ bad m p → Makes out o (Refused m p) out
-  unfolding shownMade leaves
-  makes-bad m p e = (ap shownMade (sym e), ap (madeIn out) (sym e))
-
-  pub makes-good : (w : List ℕ) (n : ℕ) (after : List ℕ) → o ≡ good w (length w) → n ≡ length w → after ≡ sets out 0 w
-      → Makes out o (Length n) after
-  unfolding shownMade leaves
-  makes-good w n after e f k = (rw f (ap shownMade (sym e)), k ∙ ap (madeIn out) (sym e))
-
-  pub makes-same : (o' : Outcome (List ℕ)) → o ≡ o' → (z : Made) (after : List ℕ) → Makes out o' z after → Makes out o z after
-  makes-same o' e z after h = (h .0 ∙ ap shownMade (sym e), h .1 ∙ ap (madeIn out) (sym e))
-
-pub fitted-short : (room : ℕ) (w : List ℕ) → room < length w → fitted room w ≡ bad tooShort 0
-unfolding fitted
-fitted-short room w h = rw (lt-ltb room (length w) h)
-
-pub fitted-fits : (room : ℕ) (w : List ℕ) → length w ≤ room → fitted room w ≡ good w (length w)
-unfolding fitted
-fitted-fits room w h = rw (le-ltb room (length w) h)
 
 -- ---- 14, 12
 
@@ -134,32 +107,39 @@ front-last l a b c vs =
 -- ---- what putting a column's values leaves where tables, marks and column are good: 11, or the values
 
 module _ (e : Envelope) (words : List ℕ) (shape : shaped e words ≡ true) (marks : List ℕ) (room : rowCount e words ≤ length marks) (a : Place)
-    (here : isPlace e a ≡ true) (start : ℕ) (out : List ℕ) (y : Gathered) (after : List ℕ)
-    (f : y ≡ gatheredOf (valuesOutcome e words marks a start out)) (k : after ≡ gatheredIn start out (valuesOutcome e words marks a start out)) where
+    (here : isPlace e a ≡ true) (start : ℕ) (out : List ℕ) (y : Written) (after : List ℕ)
+    (f : Writes start out (valuesOutcome e words marks a start out) y after) where
   abbrev listed : List ℕ
   listed = risingValues e words marks a
 
-  values-short : (m p : ℕ) → y ≡ g.Refused m p → (length out < start + length listed) × (m ≡ tooShort) × (p ≡ 0) × (after ≡ out)
+  abbrev gathering : Outcome (List ℕ)
+  gathering = valuesOutcome e words marks a start out
+
+  when-fit : start + length listed ≤ length out → Writes start out gathering (Length (length listed)) (sets out start listed)
+  when-fit l = writes-good start out gathering listed 0 (length listed) _ (values-taken e a words marks start out shape room here l) refl refl
+
+  when-short : length out < start + length listed → Writes start out gathering (Refused tooShort 0) out
+  when-short l = writes-bad start out gathering tooShort 0 (values-narrow e a words marks start out shape room here l)
+
+  values-short : (m p : ℕ) → y ≡ Refused m p → (length out < start + length listed) × (m ≡ tooShort) × (p ≡ 0) × (after ≡ out)
   values-short m p h =
       split (start + length listed) (length out)
       (λ l.
-      let same : g.Length (length listed) ≡ g.Refused m p = sym (values-length e a words marks start out shape room here l) ∙ sym f ∙ h in
+      let same : Length (length listed) ≡ Refused m p = when-fit l .0 ∙ sym (f .0) ∙ h in
       let z : _≡_ {A = ℕ} 0 1 = cc in
       absurd (never z))
       (λ l.
-      let short = values-narrow e a words marks start out shape room here l in
-      let same : g.Refused m p ≡ g.Refused tooShort 0 = sym h ∙ f ∙ values-refused e a words marks start out tooShort 0 short in
-      (l, cc, cc, k ∙ values-stay e a words marks start out tooShort 0 short))
+      let same : Refused m p ≡ Refused tooShort 0 = sym h ∙ f .0 ∙ sym (when-short l .0) in
+      (l, cc, cc, f .1 ∙ sym (when-short l .1)))
 
-  values-fit : (n : ℕ) → y ≡ g.Length n → (start + length listed ≤ length out) × (n ≡ length listed) × (after ≡ sets out start listed)
+  values-fit : (n : ℕ) → y ≡ Length n → (start + length listed ≤ length out) × (n ≡ length listed) × (after ≡ sets out start listed)
   values-fit n h =
       split (start + length listed) (length out)
       (λ l.
-      let same : g.Length n ≡ g.Length (length listed) = sym h ∙ f ∙ values-length e a words marks start out shape room here l in
-      (l, cc, k ∙ values-buffer e a words marks start out shape room here l))
+      let same : Length n ≡ Length (length listed) = sym h ∙ f .0 ∙ sym (when-fit l .0) in
+      (l, cc, f .1 ∙ sym (when-fit l .1)))
       (λ l.
-      let short = values-narrow e a words marks start out shape room here l in
-      let same : g.Refused tooShort 0 ≡ g.Length n = sym (values-refused e a words marks start out tooShort 0 short) ∙ sym f ∙ h in
+      let same : Refused tooShort 0 ≡ Length n = when-short l .0 ∙ sym (f .0) ∙ h in
       let z : _≡_ {A = ℕ} 0 1 = cc in
       absurd (never z))
 
@@ -180,9 +160,9 @@ module _ (q : Papers) (x : End) (words marks : List ℕ) (n : ℕ) (out : List �
   unfolding valuesWith
   whole = rw (f, e)
 
-  pub values-waits : (m p : ℕ) → w ≡ v.Refused m p → Makes out outcome (Refused m p) out
+  pub values-waits : (m p : ℕ) → w ≡ v.Refused m p → Writes 0 out outcome (Refused m p) out
   values-waits m p h =
-      makes-bad out outcome m p (whole ∙ judge-refused (sendTests (q .program) (x .applied) ours (s .right .relation) n) w k _ m p h)
+      writes-bad 0 out outcome m p (whole ∙ judge-refused (sendTests (q .program) (x .applied) ours (s .right .relation) n) w k _ m p h)
 
   module _ (h : w ≡ v.Taken) where
     sendable : outcome ≡ fitted (length out) (valueMessage (x .run) n values)
@@ -194,18 +174,18 @@ module _ (q : Papers) (x : End) (words marks : List ℕ) (n : ℕ) (out : List �
         ltb-true _ _ (and-left _ _ (sym f ∙ sending-ours (q .program) (x .applied) ours (s .right .relation) n w k h)) in
         rw e (step-legal q (u .papers) n t .right)
 
-    module _ (y : Gathered) (after : List ℕ) (a : y ≡ gatheredOf (valuesOutcome (q .envelope) words marks (s .right) 3 out))
-        (b : after ≡ gatheredIn 3 out (valuesOutcome (q .envelope) words marks (s .right) 3 out)) where
-      pub values-none : (m p : ℕ) → y ≡ g.Refused m p → Makes out outcome (Refused m p) after
+    module _ (y : Written) (after : List ℕ) (a : y ≡ writtenOf (valuesOutcome (q .envelope) words marks (s .right) 3 out))
+        (b : after ≡ writtenFrom 3 out (valuesOutcome (q .envelope) words marks (s .right) 3 out)) where
+      pub values-none : (m p : ℕ) → y ≡ Refused m p → Writes 0 out outcome (Refused m p) after
       unfolding valueMessage
       values-none m p t =
-          let (short, i, j, d) = values-short (q .envelope) words (u .shape) marks (u .room) (s .right) place 3 out y after a b m p t in
+          let (short, i, j, d) = values-short (q .envelope) words (u .shape) marks (u .room) (s .right) place 3 out y after (a, b) m p t in
           rw (i, j, d)
-          (makes-bad out outcome tooShort 0 (sendable ∙ fitted-short (length out) (x .run ∷ n ∷ length values ∷ values) (omega arith)))
+          (writes-bad 0 out outcome tooShort 0 (sendable ∙ fitted-short (length out) (x .run ∷ n ∷ length values ∷ values) (omega arith)))
 
-      module _ (i : ℕ) (t : y ≡ g.Length i) where
+      module _ (i : ℕ) (t : y ≡ Length i) where
         fit : (3 + length values ≤ length out) × (i ≡ length values) × (after ≡ sets out 3 values)
-        fit = values-fit (q .envelope) words (u .shape) marks (u .room) (s .right) place 3 out y after a b i t
+        fit = values-fit (q .envelope) words (u .shape) marks (u .room) (s .right) place 3 out y after (a, b) i t
 
         pub values-few : i ≤ 4096
         values-few =
@@ -216,21 +196,21 @@ module _ (q : Papers) (x : End) (words marks : List ℕ) (n : ℕ) (out : List �
               shaped-shape (q .envelope) words (u .shape) .few (s .right .relation),
             )
 
-        pub values-made : (last : List ℕ) → last ≡ sets after 0 (x .run ∷ n ∷ i ∷ []) → Makes out outcome (Length (3 + i)) last
+        pub values-made : (last : List ℕ) → last ≡ sets after 0 (x .run ∷ n ∷ i ∷ []) → Writes 0 out outcome (Length (3 + i)) last
         unfolding valueMessage
         values-made last l =
-            makes-good out outcome (x .run ∷ n ∷ length values ∷ values) (3 + i) last
+            writes-good 0 out outcome (x .run ∷ n ∷ length values ∷ values) _ (3 + i) last
             (sendable ∙ fitted-fits (length out) (x .run ∷ n ∷ length values ∷ values) (omega (arith, fit .0)))
             (omega (arith, fit .1))
             (l ∙ rw (fit .1, fit .2) (front-last out (x .run) n (length values) values))
 
 module _ (x : End) (words marks : List ℕ) (n : ℕ) (out : List ℕ) (c : PapersRead) (k : c ≡ shownPapers (usable x words (length marks))) where
-  pub make-refused : (m u : ℕ) → c .verdict ≡ v.Refused m u → Makes out (makeValuesOf x words marks n (length out)) (Refused m u) out
+  pub make-refused : (m u : ℕ) → c .verdict ≡ v.Refused m u → Writes 0 out (makeValuesOf x words marks n (length out)) (Refused m u) out
   unfolding makeValuesOf
-  make-refused m u h = makes-bad out _ m u (call-refused (λ q. valuesWith q x words marks n (length out)) x words (length marks) c k m u h)
+  make-refused m u h = writes-bad 0 out _ m u (call-refused (λ q. valuesWith q x words marks n (length out)) x words (length marks) c k m u h)
 
-  pub make-with : c .verdict ≡ v.Taken → (z : Made) (after : List ℕ) → Makes out (valuesWith (c .papers) x words marks n (length out)) z after
-      → Makes out (makeValuesOf x words marks n (length out)) z after
+  pub make-with : c .verdict ≡ v.Taken → (z : Written) (after : List ℕ) → Writes 0 out (valuesWith (c .papers) x words marks n (length out)) z after
+      → Writes 0 out (makeValuesOf x words marks n (length out)) z after
   unfolding makeValuesOf
   make-with h z after m =
-      makes-same out _ _ (call-with (λ q. valuesWith q x words marks n (length out)) x words (length marks) c k h) z after m
+      writes-same 0 out _ _ (call-with (λ q. valuesWith q x words marks n (length out)) x words (length marks) c k h) z after m

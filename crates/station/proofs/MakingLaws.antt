@@ -1,5 +1,5 @@
 -- What making a message says: where it is taken, its facts; where it is refused, by which number, and that nothing changed.
-use mathlib.Core.Path.{_≡_, ap, sym, _∙_}
+use mathlib.Core.Path.{_≡_}
 use mathlib.Core.Bool.{Bool, true, _&&_}
 use mathlib.Core.List.{List, [], _∷_, List·Memᴰ, List·Memᴰ·tail, Memᴰ·append-left}
 use mathlib.Core.Logic.{_⊎_, inl, inr}
@@ -9,11 +9,13 @@ use lib.Dec.{ltb}
 use borrow.Author.Tests.{ltb-true, ltb-false, not-false}
 use Rattle.ground.specs.Outcome.{Outcome}
 use Rattle.ground.specs.Outcome.Outcome.{good, bad}
-use Rattle.ground.specs.Refusing.{test, judged}
-use Rattle.ground.proofs.OutcomeLaws.{next-good, good-bad}
-use Rattle.ground.proofs.RefusingLaws.{judged-good, judged-number}
+use Rattle.ground.specs.Refusing.{judged}
+use Rattle.ground.proofs.OutcomeLaws.{next-good}
+use Rattle.ground.proofs.RefusingLaws.{judged-good, judged-number, each-passes}
 use Rattle.ground.proofs.TestLaws.{and-left, and-right}
 use Rattle.fields.specs.Refusals.{tooShort, waiting, notOurs}
+use Rattle.fields.specs.Puts.{fitted}
+use Rattle.fields.proofs.PutLaws.{fitted-good, fitted-bad}
 use Rattle.contents.specs.Sites.{isAt}
 use Rattle.papers.specs.declared.programs.Program.{Program}
 use Rattle.papers.specs.declared.checks.Papers.{Papers}
@@ -23,9 +25,8 @@ use Rattle.tables.specs.Values.{risingValues}
 use Rattle.ends.specs.Reducing.{stepCount, stepOf, stepsBefore, isMissing}
 use Rattle.ends.specs.Ends.{appliedOf, usable, Usable, papersOfEnd, Sound}
 use Rattle.ends.specs.Messages.{valueMessage, rowMessage}
-use Rattle.station.specs.Making.{sendTests, fitted, valuesWith, makeValuesOf, sentRows, rowsWith, makeRowsOf, madeIn}
+use Rattle.station.specs.Making.{sendTests, valuesWith, makeValuesOf, sentRows, rowsWith, makeRowsOf}
 use Rattle.ends.specs.declared.ends.End.{End}
-use Rattle.station.proofs.CallLaws.{each-passes, leaves-refused}
 use Rattle.ends.proofs.EndLaws.{usable-is}
 use Rattle.ends.proofs.SoundLaws.{ToldFirst, call-number, sound-call}
 
@@ -37,27 +38,19 @@ module _ (p : Program) (applied : List ℕ) (ours : Bool) (r n room : ℕ) (w : 
 
   sent-facts : (m : List ℕ) (u : ℕ) → sending ≡ good m u
       → (ours ≡ true) × (stepsBefore p r n ≤ getD applied r 0) × (m ≡ w) × (length m ≤ room) × (u ≡ length m)
-  unfolding fitted isMissing
+  unfolding isMissing
   sent-facts m u h =
       let (none, rest) = judged-good (sendTests p applied ours r n) (fitted room w) m u .0 h in
       let passed = each-passes (sendTests p applied ours r n) none in
-      let (fits, made) = judged-good (test (ltb room (length w)) tooShort 0 ∷ []) (good w (length w)) m u .0 rest in
-      let enough : length w ≤ room = ltb-false _ _ (each-passes (test (ltb room (length w)) tooShort 0 ∷ []) fits .0) in
-      let same : w ≡ m = cc in
-      let long : length w ≡ u = cc in
-      (not-false _ (passed .0), ltb-false _ _ (passed .1 .0), sym same, rw (← same) enough, sym long ∙ ap (λ (l : List ℕ). length l) same)
+      let (same, enough, long) = fitted-good room w m u rest in
+      (not-false _ (passed .0), ltb-false _ _ (passed .1 .0), same, rw same enough, rw same long)
 
   sent-number : (k u : ℕ) → sending ≡ bad k u → List·Memᴰ k (notOurs ∷ waiting ∷ tooShort ∷ [])
-  unfolding fitted
   sent-number k u h = go (judged-number (sendTests p applied ours r n) (fitted room w) k u h)
     where
-      last : List·Memᴰ k (tooShort ∷ []) ⊎ (good w (length w) ≡ bad k u) → List·Memᴰ k (notOurs ∷ waiting ∷ tooShort ∷ [])
-      last (inl m) = List·Memᴰ·tail (List·Memᴰ·tail m)
-      last (inr e) = absurd (good-bad w (length w) k u e)
-
       go : List·Memᴰ k (notOurs ∷ waiting ∷ []) ⊎ (fitted room w ≡ bad k u) → List·Memᴰ k (notOurs ∷ waiting ∷ tooShort ∷ [])
       go (inl m) = Memᴰ·append-left (tooShort ∷ []) m
-      go (inr e) = last (judged-number (test (ltb room (length w)) tooShort 0 ∷ []) (good w (length w)) k u e)
+      go (inr e) = List·Memᴰ·tail (List·Memᴰ·tail (fitted-bad room w k u e .0))
 
 -- ---- a value message
 
@@ -141,12 +134,6 @@ module _ (x : End) (words marks : List ℕ) (r room : ℕ) where
           inr
           (sent-number (q .program) (x .applied) (isAt (q .envelope) (x .site) r) r (stepCount (q .program)) room
           (rowMessage (x .run) r (sentRows (q .envelope) words marks r)) k u e)
-
--- ---- a refusal leaves the buffer, and is answered
-
-module _ (out : List ℕ) (o : Outcome (List ℕ)) (n u : ℕ) (h : o ≡ bad n u) where
-  pub made-untouched : madeIn out o ≡ out
-  made-untouched = leaves-refused _ out o n u h
 
 -- ---- at a sound end, with tables of the shape and marks enough, it is by the papers as they stand
 

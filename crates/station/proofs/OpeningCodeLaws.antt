@@ -7,12 +7,12 @@ use native.Mathlib.Omega.{arith}
 use lib.ListN.{length, getD, set, replicate, length-map, List·getD-eq-default}
 use borrow.Author.Tests.{lt-ltb, le-ltb, not-true, not-false}
 use Rattle.ground.specs.Lists.{below, numbersFrom}
-use Rattle.ground.specs.Outcome.{Outcome, next, verdictOf}
+use Rattle.ground.specs.Outcome.{Outcome, next, verdictOf, valueOf, leaves}
 use Rattle.ground.specs.Outcome.Outcome.{good, bad}
 use Rattle.ground.specs.declared.Verdict.{Verdict}
 use Rattle.ground.specs.declared.Verdict.the-variants.{Taken, Refused}
 use Rattle.ground.proofs.CountLaws.{split}
-use Rattle.ground.proofs.OutcomeLaws.{good-bad, taken-is, refused-is}
+use Rattle.ground.proofs.OutcomeLaws.{good-bad, taken-is, refused-is, leaves-good, leaves-refused}
 use Rattle.ground.proofs.ListLaws.{getD-map}
 use Rattle.ground.proofs.NumbersLaws.{below-length, below-getD, map-below}
 use Rattle.ground.proofs.CollectingLaws.{Collecting, collecting-start, collecting-push, padded-full}
@@ -28,10 +28,8 @@ use Rattle.papers.specs.declared.checks.PapersRead.{PapersRead}
 use Rattle.papers.proofs.CheckLaws.{papers-taken, papers-refused, papers-sound}
 use Rattle.tables.specs.Offsets.{rowCount}
 use Rattle.tables.specs.Shape.{shaped}
-use Rattle.semijoin.specs.Marks.{marksAfter}
 use Rattle.semijoin.specs.Local.{openedIn, openOutcome}
 use Rattle.semijoin.proofs.CallPromiseLaws.{call-promise}
-use Rattle.station.specs.Calls.{leaves}
 use Rattle.ends.specs.Ends.{Marked, startOf, noEnd}
 use Rattle.station.specs.Opening.{hereAt, openWith, openOf, shownOpened, openedMarks}
 use Rattle.ends.specs.declared.ends.End.{End}
@@ -78,7 +76,7 @@ module _ (e : Envelope) (site : ℕ) where
 -- ---- what opening the marks leaves where the envelope and the shape are good: 11, or the marks set
 
 module _ (e : Envelope) (within : Within e) (words : List ℕ) (shape : shaped e words ≡ true) (marks : List ℕ) (here : ℕ → Bool) (v : Verdict)
-    (after : List ℕ) (f : v ≡ verdictOf (openOutcome e words here marks)) (k : after ≡ marksAfter marks (openOutcome e words here marks)) where
+    (after : List ℕ) (f : v ≡ verdictOf (openOutcome e words here marks)) (k : after ≡ valueOf marks (openOutcome e words here marks)) where
   abbrev result : Outcome (List ℕ)
   result = openOutcome e words here marks
 
@@ -90,12 +88,12 @@ module _ (e : Envelope) (within : Within e) (words : List ℕ) (shape : shaped e
       (λ l.
       let short : result ≡ bad tooShort 0 = call-promise .open-unmarked e words here marks within shape l in
       let same : bad m p ≡ bad tooShort 0 = sym found ∙ short in
-      (l, cc, cc, k ∙ ap (marksAfter marks) short ∙ call-promise .marks-kept marks tooShort 0))
+      (l, cc, cc, k ∙ leaves-refused _ marks result tooShort 0 short))
 
   marks-opened : v ≡ Taken → (rowCount e words ≤ length marks) × (after ≡ openedIn e words here marks)
   marks-opened h =
       split (rowCount e words) (length marks)
-      (λ l. (l, k ∙ ap (marksAfter marks) (call-promise .open-taken e words here marks within shape l) ∙ call-promise .marks-set marks _ 0))
+      (λ l. (l, k ∙ ap (valueOf marks) (call-promise .open-taken e words here marks within shape l) ∙ leaves-good _ marks _ 0))
       (λ l. absurd (good-bad _ _ tooShort 0 (sym (taken-is marks result (sym f ∙ h)) ∙ call-promise .open-unmarked e words here marks within shape l)))
 
 -- ---- what is answered
@@ -147,7 +145,7 @@ module _ (q : Papers) (site run : ℕ) (words marks : List ℕ) (b : Bool) (f : 
 
     module _ (h : site ≤ 7) (papers : GoodPapers q) (here : List Bool) (l : here ≡ hereAt (q .envelope) site) (v : Verdict) (after : List ℕ)
         (g : v ≡ verdictOf (openOutcome (q .envelope) words (λ r. getD here r false) marks))
-        (k : after ≡ marksAfter marks (openOutcome (q .envelope) words (λ r. getD here r false) marks)) where
+        (k : after ≡ valueOf marks (openOutcome (q .envelope) words (λ r. getD here r false) marks)) where
       pub open-refused : (m p : ℕ) → v ≡ Refused m p → (z : Opened) → z ≡ shownOpened (bad m p) → Opens z after
       unfolding openWith
       open-refused m p t z e =

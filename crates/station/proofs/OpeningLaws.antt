@@ -12,8 +12,8 @@ use borrow.Author.Tests.{ltb-false, le-ltb, not-false}
 use Rattle.ground.specs.Outcome.Outcome.{good, bad}
 use Rattle.ground.specs.Refusing.{Test, test}
 use Rattle.ground.proofs.CountLaws.{split}
-use Rattle.ground.proofs.OutcomeLaws.{next-good, next-bad}
-use Rattle.ground.proofs.RefusingLaws.{judged-good, refusal-listed}
+use Rattle.ground.proofs.OutcomeLaws.{next-good, next-bad, leaves-refused}
+use Rattle.ground.proofs.RefusingLaws.{judged-good, refusal-listed, each-passes}
 use Rattle.fields.specs.Refusals.{beyondLimit, wrongShape, tooShort}
 use Rattle.contents.specs.Sites.{isAt}
 use Rattle.contents.specs.declared.envelope.Envelope.{Envelope}
@@ -27,7 +27,6 @@ use Rattle.semijoin.specs.Local.{openedIn}
 use Rattle.ends.specs.Ends.{Marked, startOf, Sound}
 use Rattle.station.specs.Opening.{openWith, openOf, openedMarks}
 use Rattle.ends.specs.declared.ends.End.{End}
-use Rattle.station.proofs.CallLaws.{each-passes, leaves-refused}
 
 -- ---- taken
 

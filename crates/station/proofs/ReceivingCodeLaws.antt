@@ -5,16 +5,16 @@ use Prim.Native.Nat.{ℕ, _≤_, _<_, min}
 use native.Mathlib.Omega.{arith}
 use lib.ListN.{length, getD}
 use borrow.Author.Tests.{lt-ltb, le-ltb, eq-eqb, ne-eqb}
-use Rattle.ground.specs.Outcome.{Outcome, next}
+use Rattle.ground.specs.Outcome.{Outcome, next, leaves}
 use Rattle.ground.specs.Outcome.Outcome.{good, bad}
 use Rattle.ground.specs.declared.Verdict.the-variants.{Taken, Refused}
+use Rattle.ground.proofs.OutcomeLaws.{leaves-turned, verdict-turned}
 use Rattle.fields.specs.Refusals.{endsInside, otherRun, notOurs}
 use Rattle.papers.specs.Checks.{shownPapers}
 use Rattle.paths.specs.declared.steps.Step.{Step}
 use Rattle.papers.specs.declared.checks.Papers.{Papers}
 use Rattle.papers.specs.declared.checks.PapersRead.{PapersRead}
 use Rattle.ends.specs.Reducing.{stepCount}
-use Rattle.station.specs.Calls.{leaves}
 use Rattle.ends.specs.Ends.{Marked, usable}
 use Rattle.ends.specs.Messages.{aboutOf}
 use Rattle.station.specs.Receiving.{Stored, Held, valuesTaken, rowsTaken, taken, receiveWith, receiveOf, refusedBy, shownReceived, receivedMarks, receivedStore}
@@ -23,7 +23,6 @@ use Rattle.ends.specs.declared.messages.About.the-variants as about
 use Rattle.ends.specs.declared.ends.End.{End}
 use Rattle.station.specs.declared.receiving.Received.{Received}
 use Rattle.ends.proofs.MessageLaws.{step-below, rows-below}
-use Rattle.station.proofs.CallLaws.{leaves-turned, verdict-turned}
 use Rattle.ends.proofs.EndLaws.{call-refused, call-with}
 use Rattle.station.proofs.TakingCodeLaws.{shown-bad, left-bad, stays}
 

@@ -9,11 +9,11 @@ use lib.ListN.{length, take, drop}
 use lib.Seq.{sets, take-add}
 use lib.Dec.{ltb, eqb}
 use borrow.Author.Tests.{ltb-false, eqb-true, not-false}
-use Rattle.ground.specs.Outcome.{verdictOf}
+use Rattle.ground.specs.Outcome.{verdictOf, leaves}
 use Rattle.ground.specs.Outcome.Outcome.{good, bad}
 use Rattle.ground.specs.Refusing.{Test, test, judged}
-use Rattle.ground.proofs.OutcomeLaws.{next-good, next-bad, good-bad}
-use Rattle.ground.proofs.RefusingLaws.{judged-good, refusal-listed}
+use Rattle.ground.proofs.OutcomeLaws.{next-good, next-bad, good-bad, leaves-refused}
+use Rattle.ground.proofs.RefusingLaws.{judged-good, refusal-listed, each-passes, refusal-or}
 use Rattle.ground.proofs.PuttingLaws.{sets-stand, sets-before, sets-behind}
 use Rattle.fields.specs.Refusals.{endsInside, tooShort, otherRun, notOurs, notSound, alreadyTaken, stepMissing}
 use Rattle.contents.specs.Parts.{relationCount}
@@ -24,14 +24,12 @@ use Rattle.semijoin.specs.Marks.{reducedBy}
 use Rattle.tables.specs.Rows.{keptAt}
 use Rattle.semijoin.proofs.PromiseLaws.{promise}
 use Rattle.ends.specs.Reducing.{stepCount, stepOf, stepsBefore}
-use Rattle.station.specs.Calls.{leaves}
 use Rattle.ends.specs.Ends.{Marked, appliedOf, hasArrived, usable, Usable}
 use Rattle.ends.specs.Messages.{frontLength, runOf, secondOf, bodyOf, aboutOf, counted, soundValues}
 use Rattle.station.specs.Receiving.{Stored, Held, withApplied, withArrived, valuesTaken, rowsTaken, taken, receiveWith, receiveOf, refusedBy, shownReceived, receivedMarks, receivedStore}
 use Rattle.ends.specs.declared.messages.About.{About}
 use Rattle.ends.specs.declared.messages.About.the-variants as about
 use Rattle.ends.specs.declared.ends.End.{End}
-use Rattle.station.proofs.CallLaws.{each-passes, leaves-refused, refusal-or}
 use Rattle.ends.proofs.EndLaws.{usable-is}
 use Rattle.ends.proofs.MessageLaws.{step-below, rows-below}
 use Rattle.ends.proofs.SoundLaws.{ToldFirst, call-number}

@@ -17,6 +17,10 @@ use Rattle.ground.proofs.NumbersLaws.{below-length}
 use Rattle.ground.proofs.CollectingLaws.{padded-take}
 use Rattle.ground.proofs.RefusingLaws.{judge-refused, judge-taken}
 use Rattle.fields.specs.Refusals.{tooShort, notOurs}
+use Rattle.fields.specs.Puts.{fitted}
+use Rattle.fields.specs.declared.puts.Written.{Written}
+use Rattle.fields.specs.declared.puts.Written.the-variants.{Length, Refused}
+use Rattle.fields.proofs.PutLaws.{Writes, writes-bad, writes-good, writes-same, fitted-short, fitted-fits}
 use Rattle.contents.specs.Parts.{relationCount, columnsIn}
 use Rattle.contents.specs.Sites.{isAt}
 use Rattle.contents.specs.Kept.{kept, keptColumns, shownColumns}
@@ -38,12 +42,10 @@ use Rattle.tables.proofs.RowLaws.{word-by, kept-by}
 use Rattle.ends.specs.Reducing.{stepCount}
 use Rattle.ends.specs.Ends.{usable}
 use Rattle.ends.specs.Messages.{rowMessage}
-use Rattle.station.specs.Making.{sendTests, fitted, sentRows, rowsWith, makeRowsOf}
+use Rattle.station.specs.Making.{sendTests, sentRows, rowsWith, makeRowsOf}
 use Rattle.ends.specs.declared.ends.End.{End}
-use Rattle.station.specs.declared.making.Made.{Made}
-use Rattle.station.specs.declared.making.Made.the-variants.{Length, Refused}
 use Rattle.ends.proofs.EndLaws.{here-below, call-refused, call-with}
-use Rattle.station.proofs.MakingCodeLaws.{Makes, makes-bad, makes-good, makes-same, fitted-short, fitted-fits, sending-ours}
+use Rattle.station.proofs.MakingCodeLaws.{sending-ours}
 use Rattle.station.proofs.RowCodeLaws.{chosen, rowWords, message-is, message-long}
 
 -- ---- the message into the buffer
@@ -104,8 +106,8 @@ module _ (e : Envelope) (words marks : List ℕ) (r : ℕ) (shape : shaped e wor
         message-long e words marks r run
         ∙ rw (width-is, f, chosen-is)
 
-    pub message-short : length out < 3 + count * width → Makes out (fitted (length out) made) (Refused tooShort 0) out
-    message-short l = makes-bad out _ tooShort 0 (fitted-short (length out) made (omega (arith, length-is)))
+    pub message-short : length out < 3 + count * width → Writes 0 out (fitted (length out) made) (Refused tooShort 0) out
+    message-short l = writes-bad 0 out _ tooShort 0 (fitted-short (length out) made (omega (arith, length-is)))
 
     module _ (l : 3 + count * width ≤ length out) (middle : List ℕ) (m : middle ≡ sets out 0 (run ∷ (256 + r) ∷ count ∷ [])) where
       pub message-room : 3 + length (filter (keptOver x marks) (below (x .rows))) * length columns ≤ length middle
@@ -116,9 +118,9 @@ module _ (e : Envelope) (words marks : List ℕ) (r : ℕ) (shape : shaped e wor
 
       pub message-made : (last : List ℕ)
           → last ≡ sets middle 3 (each (λ i. map (wordOver x words i) columns) (filter (keptOver x marks) (below (x .rows))))
-          → Makes out (fitted (length out) made) (Length (3 + count * width)) last
+          → Writes 0 out (fitted (length out) made) (Length (3 + count * width)) last
       message-made last k =
-          makes-good out (fitted (length out) made) made (3 + count * width) last (fitted-fits (length out) made (omega (arith, length-is)))
+          writes-good 0 out (fitted (length out) made) made _ (3 + count * width) last (fitted-fits (length out) made (omega (arith, length-is)))
           (sym length-is)
           (k ∙ rw (m, words-are, chosen-is, f, message-is e words marks r run, chosen-is))
 
@@ -132,12 +134,12 @@ module _ (q : Papers) (x : End) (words marks : List ℕ) (r : ℕ) (out : List �
   abbrev outcome : Outcome (List ℕ)
   outcome = rowsWith q x words marks r (length out)
 
-  pub rows-nowhere : 7 < r → Makes out outcome (Refused notOurs 0) out
+  pub rows-nowhere : 7 < r → Writes 0 out outcome (Refused notOurs 0) out
   unfolding rowsWith
   rows-nowhere h =
       let none : isAt (q .envelope) (x .site) r ≡ false =
       sym (at-none (q .envelope) r (x .site) (min 8 (q .envelope .«relation_count»)) refl (omega arith)) in
-      makes-bad out outcome notOurs 0 (rw none)
+      writes-bad 0 out outcome notOurs 0 (rw none)
 
   module _ (ours : Bool) (f : ours ≡ isAt (q .envelope) (x .site) r) (n : ℕ) (g : n ≡ stepCount (q .program)) (w : Verdict)
       (k : w ≡ judgement (sendTests (q .program) (x .applied) ours r n)) where
@@ -146,21 +148,21 @@ module _ (q : Papers) (x : End) (words marks : List ℕ) (r : ℕ) (out : List �
     unfolding rowsWith
     whole = rw (f, g)
 
-    pub rows-wait : (m p : ℕ) → w ≡ v.Refused m p → Makes out outcome (Refused m p) out
-    rows-wait m p h = makes-bad out outcome m p (whole ∙ judge-refused (sendTests (q .program) (x .applied) ours r n) w k _ m p h)
+    pub rows-wait : (m p : ℕ) → w ≡ v.Refused m p → Writes 0 out outcome (Refused m p) out
+    rows-wait m p h = writes-bad 0 out outcome m p (whole ∙ judge-refused (sendTests (q .program) (x .applied) ours r n) w k _ m p h)
 
-    pub rows-made : w ≡ v.Taken → (z : Made) (after : List ℕ)
-        → Makes out (fitted (length out) (rowMessage (x .run) r (sentRows (q .envelope) words marks r))) z after → Makes out outcome z after
+    pub rows-made : w ≡ v.Taken → (z : Written) (after : List ℕ)
+        → Writes 0 out (fitted (length out) (rowMessage (x .run) r (sentRows (q .envelope) words marks r))) z after → Writes 0 out outcome z after
     rows-made h z after m =
-        makes-same out outcome _ (whole ∙ judge-taken (sendTests (q .program) (x .applied) ours r n) w k _ h) z after m
+        writes-same 0 out outcome _ (whole ∙ judge-taken (sendTests (q .program) (x .applied) ours r n) w k _ h) z after m
 
 module _ (x : End) (words marks : List ℕ) (r : ℕ) (out : List ℕ) (c : PapersRead) (k : c ≡ shownPapers (usable x words (length marks))) where
-  pub make-rows-refused : (m u : ℕ) → c .verdict ≡ v.Refused m u → Makes out (makeRowsOf x words marks r (length out)) (Refused m u) out
+  pub make-rows-refused : (m u : ℕ) → c .verdict ≡ v.Refused m u → Writes 0 out (makeRowsOf x words marks r (length out)) (Refused m u) out
   unfolding makeRowsOf
-  make-rows-refused m u h = makes-bad out _ m u (call-refused (λ q. rowsWith q x words marks r (length out)) x words (length marks) c k m u h)
+  make-rows-refused m u h = writes-bad 0 out _ m u (call-refused (λ q. rowsWith q x words marks r (length out)) x words (length marks) c k m u h)
 
-  pub make-rows-with : c .verdict ≡ v.Taken → (z : Made) (after : List ℕ) → Makes out (rowsWith (c .papers) x words marks r (length out)) z after
-      → Makes out (makeRowsOf x words marks r (length out)) z after
+  pub make-rows-with : c .verdict ≡ v.Taken → (z : Written) (after : List ℕ) → Writes 0 out (rowsWith (c .papers) x words marks r (length out)) z after
+      → Writes 0 out (makeRowsOf x words marks r (length out)) z after
   unfolding makeRowsOf
   make-rows-with h z after m =
-      makes-same out _ _ (call-with (λ q. rowsWith q x words marks r (length out)) x words (length marks) c k h) z after m
+      writes-same 0 out _ _ (call-with (λ q. rowsWith q x words marks r (length out)) x words (length marks) c k h) z after m

@@ -9,11 +9,11 @@ use lib.Seq.{sets, take-length}
 use lib.Dec.{ltb, eqb}
 use borrow.Author.Tests.{lt-ltb, le-ltb, eq-eqb, ne-eqb, not-true, not-false}
 use Rattle.ground.specs.Tests.{pick}
-use Rattle.ground.specs.Outcome.{Outcome, verdictOf}
+use Rattle.ground.specs.Outcome.{Outcome, verdictOf, valueOf, leaves}
 use Rattle.ground.specs.Outcome.Outcome.{good, bad}
 use Rattle.ground.specs.declared.Verdict.the-variants.{Taken}
 use Rattle.ground.proofs.CountLaws.{split}
-use Rattle.ground.proofs.OutcomeLaws.{never}
+use Rattle.ground.proofs.OutcomeLaws.{never, leaves-good, leaves-refused}
 use Rattle.ground.proofs.PuttingLaws.{Copying, copying-length, copying-done}
 use Rattle.fields.specs.Refusals.{tooShort, notOurs, notSound, alreadyTaken, stepMissing}
 use Rattle.contents.specs.Sites.{isAt}
@@ -28,13 +28,12 @@ use Rattle.papers.specs.Checks.{GoodPapers}
 use Rattle.tables.specs.Offsets.{rowCount}
 use Rattle.tables.specs.Shape.{shaped}
 use Rattle.tables.specs.Rising.{isRising}
-use Rattle.semijoin.specs.Marks.{reducedBy, reduceOutcome, reducedOf, marksAfter}
+use Rattle.semijoin.specs.Marks.{reducedBy, reduceOutcome, reducedOf}
 use Rattle.semijoin.specs.declared.marks.Reduced.{Reduced}
 use Rattle.semijoin.specs.declared.marks.Reduced.the-variants as r
 use Rattle.semijoin.proofs.CallPromiseLaws.{call-promise}
 use Rattle.ends.specs.Reducing.{stepCount, stepOf, stepsBefore, missingOf}
 use Rattle.ends.specs.declared.reducing.Missing.{Missing}
-use Rattle.station.specs.Calls.{leaves}
 use Rattle.ends.specs.Ends.{Marked, Usable}
 use Rattle.ends.specs.Messages.{counted, soundValues}
 use Rattle.station.specs.Receiving.{Stored, appliedTo, withApplied, withArrived, isNext, notNext, valuesTaken, rowsTaken, refusedBy, shownReceived}
@@ -113,7 +112,7 @@ module _ (m before : List ℕ) (used i p : ℕ) (out : List ℕ) (c : Copying m 
 
 module _ (e : Envelope) (words : List ℕ) (shape : shaped e words ≡ true) (marks : List ℕ) (room : rowCount e words ≤ length marks) (a : Place)
     (here : isPlace e a ≡ true) (by : List ℕ) (n : ℕ) (y : Reduced) (after : List ℕ)
-    (f : y ≡ reducedOf n (reduceOutcome e words by a marks)) (k : after ≡ marksAfter marks (reduceOutcome e words by a marks)) where
+    (f : y ≡ reducedOf n (reduceOutcome e words by a marks)) (k : after ≡ valueOf marks (reduceOutcome e words by a marks)) where
   abbrev result : Outcome (List ℕ)
   result = reduceOutcome e words by a marks
 
@@ -134,13 +133,13 @@ module _ (e : Envelope) (words : List ℕ) (shape : shaped e words ≡ true) (ma
           absurd (never z)
       go false t =
           let same : r.Refused m p ≡ r.Refused notSound 0 = sym h ∙ f ∙ ap (reducedOf n) (falls t) ∙ call-promise .answers-refused n notSound 0 in
-          (t, cc, cc, k ∙ ap (marksAfter marks) (falls t) ∙ call-promise .marks-kept marks notSound 0)
+          (t, cc, cc, k ∙ leaves-refused _ marks result notSound 0 (falls t))
 
   reduce-rises : (i : ℕ) → y ≡ r.Removed i → (isRising by ≡ true) × (after ≡ reducedBy e words by a marks)
   reduce-rises i h = go (isRising by) refl
     where
       go : (b : Bool) → isRising by ≡ b → (isRising by ≡ true) × (after ≡ reducedBy e words by a marks)
-      go true t = (t, k ∙ ap (marksAfter marks) (taken t) ∙ call-promise .marks-set marks _ 0)
+      go true t = (t, k ∙ ap (valueOf marks) (taken t) ∙ leaves-good _ marks _ 0)
       go false t =
           let same : r.Refused notSound 0 ≡ r.Removed i =
           sym (call-promise .answers-refused n notSound 0) ∙ ap (reducedOf n) (sym (falls t)) ∙ sym f ∙ h in
@@ -219,7 +218,7 @@ module _ (q : Papers) (x : End) (words marks m : List ℕ) (n : ℕ) (u : Usable
 
       module _ (v : not is ≡ false) (by : List ℕ) (body : by ≡ drop 3 m) (removed : ℕ) (y : Reduced) (after : List ℕ)
           (g : y ≡ reducedOf removed (reduceOutcome (q .envelope) words by (s .left) marks))
-          (k : after ≡ marksAfter marks (reduceOutcome (q .envelope) words by (s .left) marks)) where
+          (k : after ≡ valueOf marks (reduceOutcome (q .envelope) words by (s .left) marks)) where
         here : isPlace (q .envelope) (s .left) ≡ true
         here = rw e (step-legal q (u .papers) n l .left)
 

@@ -5,12 +5,11 @@ use Prim.Native.Nat.{ℕ}
 use mathlib.Core.Bool.{Bool, _&&_, not}
 use mathlib.Core.List.{List, [], _∷_, map}
 use lib.ListN.{length, getD}
-use lib.Seq.{sets}
 use lib.Dec.{ltb}
 use Rattle.ground.specs.Outcome.{Outcome, next}
-use Rattle.ground.specs.Outcome.Outcome.{good, bad}
 use Rattle.ground.specs.Refusing.{Test, test, judged}
-use Rattle.fields.specs.Refusals.{tooShort, waiting, notOurs}
+use Rattle.fields.specs.Refusals.{waiting, notOurs}
+use Rattle.fields.specs.Puts.{fitted}
 use Rattle.contents.specs.Sites.{isAt}
 use Rattle.contents.specs.Kept.{keptColumns}
 use Rattle.contents.specs.declared.envelope.Envelope.{Envelope}
@@ -20,12 +19,9 @@ use Rattle.papers.specs.declared.checks.Papers.{Papers}
 use Rattle.tables.specs.Rows.{keptRows}
 use Rattle.tables.specs.Values.{risingValues}
 use Rattle.ends.specs.Reducing.{stepCount, stepOf, isMissing, firstMissing}
-use Rattle.station.specs.Calls.{leaves}
 use Rattle.ends.specs.Ends.{usable}
 use Rattle.ends.specs.Messages.{valueMessage, rowMessage}
 use Rattle.ends.specs.declared.ends.End.{End}
-use Rattle.station.specs.declared.making.Made.{Made}
-use Rattle.station.specs.declared.making.Made.the-variants.{Length, Refused}
 
 -- 14, 12: a message is ours, and none of the steps of its relation below n is missing
 abbrev pub sendTests : Program → List ℕ → Bool → ℕ → ℕ → List Test
@@ -34,11 +30,7 @@ sendTests p applied ours r n =
     ∷ test (isMissing p r (getD applied r 0) n) waiting (firstMissing p r (getD applied r 0) n)
     ∷ []
 
--- then 11 where it does not fit into so much room
-unfoldable pub fitted : ℕ → List ℕ → Outcome (List ℕ)
-fitted room m = judged (test (ltb room (length m)) tooShort 0 ∷ []) (good m (length m))
-
--- the value message of a step, into so much room
+-- the value message of a step, into so much room: then 11
 unfoldable pub valuesWith : Papers → End → List ℕ → List ℕ → ℕ → ℕ → Outcome (List ℕ)
 valuesWith q x words marks n room =
     let b = stepOf (q .program) n .right in
@@ -62,11 +54,3 @@ rowsWith q x words marks r room =
 
 unfoldable pub makeRowsOf : End → List ℕ → List ℕ → ℕ → ℕ → Outcome (List ℕ)
 makeRowsOf x words marks r room = next (usable x words (length marks)) (λ q _. rowsWith q x words marks r room)
-
--- what the functions answer, and the buffer afterwards
-unfoldable pub shownMade : Outcome (List ℕ) → Made
-shownMade (good m p) = Length p
-shownMade (bad n p) = Refused n p
-
-abbrev pub madeIn : List ℕ → Outcome (List ℕ) → List ℕ
-madeIn out o = leaves (sets out 0) out o

@@ -6,7 +6,7 @@ use mathlib.Core.List.{List, [], _∷_, map}
 use lib.ListN.{length}
 use lib.Dec.{ltb}
 use Rattle.ground.specs.Lists.{below}
-use Rattle.ground.specs.Outcome.{Outcome, next, verdictOf}
+use Rattle.ground.specs.Outcome.{Outcome, next, verdictOf, leaves}
 use Rattle.ground.specs.Outcome.Outcome.{good}
 use Rattle.ground.specs.Refusing.{test, judged}
 use Rattle.fields.specs.Refusals.{beyondLimit, wrongShape, tooShort}
@@ -18,7 +18,6 @@ use Rattle.papers.specs.declared.checks.Papers.{Papers}
 use Rattle.tables.specs.Offsets.{rowCount}
 use Rattle.tables.specs.Shape.{shaped}
 use Rattle.semijoin.specs.Local.{openedIn}
-use Rattle.station.specs.Calls.{leaves}
 use Rattle.ends.specs.Ends.{Marked, startOf, noEnd}
 use Rattle.station.specs.declared.opening.Opened.{Opened}
 

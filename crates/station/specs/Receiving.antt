@@ -7,7 +7,7 @@ use mathlib.Core.List.{List, [], _∷_}
 use lib.ListN.{length, set}
 use lib.Seq.{sets}
 use lib.Dec.{eqb, ltb}
-use Rattle.ground.specs.Outcome.{Outcome, next, verdictOf}
+use Rattle.ground.specs.Outcome.{Outcome, next, verdictOf, leaves}
 use Rattle.ground.specs.Outcome.Outcome.{good, bad}
 use Rattle.ground.specs.declared.Verdict.the-variants.{Refused}
 use Rattle.ground.specs.Refusing.{test, judged}
@@ -19,7 +19,6 @@ use Rattle.paths.specs.declared.steps.Step.{Step}
 use Rattle.papers.specs.declared.checks.Papers.{Papers}
 use Rattle.semijoin.specs.Marks.{reducedBy}
 use Rattle.ends.specs.Reducing.{stepCount, stepOf, stepsBefore}
-use Rattle.station.specs.Calls.{leaves}
 use Rattle.ends.specs.Ends.{Marked, appliedOf, hasArrived, usable}
 use Rattle.ends.specs.Messages.{frontLength, runOf, secondOf, bodyOf, aboutOf, counted, soundValues}
 use Rattle.ends.specs.declared.reducing.Missing.{Missing}

@@ -2,26 +2,21 @@
 use contents::envelope::Envelope;
 use ends::ends::End;
 use ends::reducing::Missing;
+use fields::puts::Written;
 use fields::refusals;
 use ground::Verdict;
 use papers::checks::Papers;
 use papers::programs::Program;
-use tables::values::Gathered;
 ghost use mathlib.Core.Path.{_≡_};
 ghost use mathlib.Core.Bool.{_&&_};
 ghost use lib.ListN.{length};
 ghost use lib.Dec.{ltb};
 ghost use Rattle.contents.specs.Sites.{isAt};
 ghost use Rattle.ground.specs.Refusing.{judgement};
+ghost use Rattle.fields.specs.Puts.{writtenOf, writtenIn};
 ghost use Rattle.ends.specs.Reducing.{stepCount};
 ghost use Rattle.ends.specs.Ends.{Usable};
-ghost use Rattle.station.specs.Making.{sendTests, valuesWith, makeValuesOf, rowsWith, makeRowsOf, shownMade, madeIn};
-
-// The length written, or the refusal; then nothing was written.
-pub enum Made {
-    Length(usize),
-    Refused { number: u8, position: usize },
-}
+ghost use Rattle.station.specs.Making.{sendTests, valuesWith, makeValuesOf, rowsWith, makeRowsOf};
 
 // 14, 12: a message is ours, and none of the steps of its relation below n is missing.
 fn judge_sending(program: Program, applied: [u32; 8], ours: bool, relation: u8, n: usize) -> Verdict
@@ -62,9 +57,9 @@ fn values_with(
     marks: &[u8],
     step: u32,
     message: &mut [u32],
-) -> Made
+) -> Written
     requires { ⌜ Usable papers (now tables) (length (now marks)) ⌝ }
-    ensures { λ r. ⌜ (r ≡ shownMade (valuesWith papers end (now (tables .entry)) (now (marks .entry)) step (length (now (message .entry))))) × (now (message .exit) ≡ madeIn (now (message .entry)) (valuesWith papers end (now (tables .entry)) (now (marks .entry)) step (length (now (message .entry))))) ⌝ }
+    ensures { λ r. ⌜ (r ≡ writtenOf (valuesWith papers end (now (tables .entry)) (now (marks .entry)) step (length (now (message .entry))))) × (now (message .exit) ≡ writtenIn (now (message .entry)) (valuesWith papers end (now (tables .entry)) (now (marks .entry)) step (length (now (message .entry))))) ⌝ }
 {
     let envelope = papers.envelope;
     let program = papers.program;
@@ -75,7 +70,7 @@ fn values_with(
     let ours = sends_step(envelope, program, end.site, n, right.relation);
     let verdict = judge_sending(program, applied, ours, right.relation, n);
     match verdict {
-        Verdict::Refused { number, position } => Made::Refused { number, position },
+        Verdict::Refused { number, position } => Written::Refused { number, position },
         Verdict::Taken => {
             let gathered = tables::values::values_into(
                 envelope,
@@ -86,10 +81,10 @@ fn values_with(
                 message,
             );
             match gathered {
-                Gathered::Refused { number, position } => Made::Refused { number, position },
-                Gathered::Length(count) => {
+                Written::Refused { number, position } => Written::Refused { number, position },
+                Written::Length(count) => {
                     ends::messages::put_front(message, end.run, step, count as u32);
-                    Made::Length(ends::messages::FRONT + count)
+                    Written::Length(ends::messages::FRONT + count)
                 }
             }
         }
@@ -97,13 +92,19 @@ fn values_with(
 }
 
 // The value message of a step: the end's papers and counts, 10, 11 (marks), 14, 12, 11 (message).
-pub fn make_values(end: End, tables: &[u32], marks: &[u8], step: u32, message: &mut [u32]) -> Made
-    ensures { λ r. ⌜ (r ≡ shownMade (makeValuesOf end (now (tables .entry)) (now (marks .entry)) step (length (now (message .entry))))) × (now (message .exit) ≡ madeIn (now (message .entry)) (makeValuesOf end (now (tables .entry)) (now (marks .entry)) step (length (now (message .entry))))) ⌝ }
+pub fn make_values(
+    end: End,
+    tables: &[u32],
+    marks: &[u8],
+    step: u32,
+    message: &mut [u32],
+) -> Written
+    ensures { λ r. ⌜ (r ≡ writtenOf (makeValuesOf end (now (tables .entry)) (now (marks .entry)) step (length (now (message .entry))))) × (now (message .exit) ≡ writtenIn (now (message .entry)) (makeValuesOf end (now (tables .entry)) (now (marks .entry)) step (length (now (message .entry))))) ⌝ }
 {
     let read = ends::ends::usable_end(end, tables, marks.len());
     let verdict = read.verdict;
     match verdict {
-        Verdict::Refused { number, position } => Made::Refused { number, position },
+        Verdict::Refused { number, position } => Written::Refused { number, position },
         Verdict::Taken => {
             let papers = read.papers;
             values_with(papers, end, tables, marks, step, message)
@@ -119,15 +120,15 @@ fn rows_with(
     marks: &[u8],
     relation: u32,
     message: &mut [u32],
-) -> Made
+) -> Written
     requires { ⌜ Usable papers (now tables) (length (now marks)) ⌝ }
-    ensures { λ r. ⌜ (r ≡ shownMade (rowsWith papers end (now (tables .entry)) (now (marks .entry)) relation (length (now (message .entry))))) × (now (message .exit) ≡ madeIn (now (message .entry)) (rowsWith papers end (now (tables .entry)) (now (marks .entry)) relation (length (now (message .entry))))) ⌝ }
+    ensures { λ r. ⌜ (r ≡ writtenOf (rowsWith papers end (now (tables .entry)) (now (marks .entry)) relation (length (now (message .entry))))) × (now (message .exit) ≡ writtenIn (now (message .entry)) (rowsWith papers end (now (tables .entry)) (now (marks .entry)) relation (length (now (message .entry))))) ⌝ }
 {
     let envelope = papers.envelope;
     let program = papers.program;
     let applied = end.applied;
     if 7 < relation {
-        return Made::Refused {
+        return Written::Refused {
             number: refusals::NOT_OURS,
             position: 0,
         };
@@ -137,7 +138,7 @@ fn rows_with(
     let steps = ends::reducing::step_count(program);
     let verdict = judge_sending(program, applied, ours, own, steps as usize);
     match verdict {
-        Verdict::Refused { number, position } => Made::Refused { number, position },
+        Verdict::Refused { number, position } => Written::Refused { number, position },
         Verdict::Taken => {
             crate::rows::put_row_message(envelope, end.run, own, tables, marks, message)
         }
@@ -145,13 +146,19 @@ fn rows_with(
 }
 
 // The row message of a relation: the end's papers and counts, 10, 11 (marks), 14, 12, 11 (message).
-pub fn make_rows(end: End, tables: &[u32], marks: &[u8], relation: u32, message: &mut [u32]) -> Made
-    ensures { λ r. ⌜ (r ≡ shownMade (makeRowsOf end (now (tables .entry)) (now (marks .entry)) relation (length (now (message .entry))))) × (now (message .exit) ≡ madeIn (now (message .entry)) (makeRowsOf end (now (tables .entry)) (now (marks .entry)) relation (length (now (message .entry))))) ⌝ }
+pub fn make_rows(
+    end: End,
+    tables: &[u32],
+    marks: &[u8],
+    relation: u32,
+    message: &mut [u32],
+) -> Written
+    ensures { λ r. ⌜ (r ≡ writtenOf (makeRowsOf end (now (tables .entry)) (now (marks .entry)) relation (length (now (message .entry))))) × (now (message .exit) ≡ writtenIn (now (message .entry)) (makeRowsOf end (now (tables .entry)) (now (marks .entry)) relation (length (now (message .entry))))) ⌝ }
 {
     let read = ends::ends::usable_end(end, tables, marks.len());
     let verdict = read.verdict;
     match verdict {
-        Verdict::Refused { number, position } => Made::Refused { number, position },
+        Verdict::Refused { number, position } => Written::Refused { number, position },
         Verdict::Taken => {
             let papers = read.papers;
             rows_with(papers, end, tables, marks, relation, message)

@@ -14,10 +14,10 @@ ghost use Prim.Native.Nat.{_+_, _≤_, _<_};
 ghost use lib.ListN.{length};
 ghost use lib.Seq.{sets};
 ghost use Rattle.ground.specs.Tests.{pick};
+ghost use Rattle.ground.specs.Outcome.{leaves};
 ghost use Rattle.fields.specs.Refusals.{notSound};
 ghost use Rattle.tables.specs.Rising.{isRising};
 ghost use Rattle.ends.specs.Reducing.{stepCount};
-ghost use Rattle.station.specs.Calls.{leaves};
 ghost use Rattle.ends.specs.Ends.{Usable, Marked};
 ghost use Rattle.ends.specs.Messages.{frontLength, bodyOf};
 ghost use Rattle.station.specs.Receiving.{

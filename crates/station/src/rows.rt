@@ -1,6 +1,6 @@
 // The rows of a row message: the kept columns of a relation's kept rows, each row read once.
-use crate::making::Made;
 use contents::envelope::Envelope;
+use fields::puts::Written;
 use fields::refusals;
 use tables::offsets::Extent;
 ghost use mathlib.Core.Path.{_≡_};
@@ -10,12 +10,13 @@ ghost use Prim.Native.Nat.{_+_, _*_, _≤_, _<_};
 ghost use lib.ListN.{length, take};
 ghost use lib.Seq.{sets};
 ghost use Rattle.ground.specs.Lists.{filter, below, each};
+ghost use Rattle.fields.specs.Puts.{fitted, writtenOf, writtenIn};
 ghost use Rattle.contents.specs.Parts.{relationCount};
 ghost use Rattle.tables.specs.Offsets.{rowCount};
 ghost use Rattle.tables.specs.Shape.{shaped};
 ghost use Rattle.tables.specs.Rows.{wordOver, keptOver};
 ghost use Rattle.ends.specs.Messages.{frontLength, rowMessage};
-ghost use Rattle.station.specs.Making.{sentRows, fitted, shownMade, madeIn};
+ghost use Rattle.station.specs.Making.{sentRows};
 
 // How many rows are kept.
 fn count_kept(marks: &[u8], extent: Extent) -> usize
@@ -89,9 +90,9 @@ pub(crate) fn put_row_message(
     tables: &[u32],
     marks: &[u8],
     message: &mut [u32],
-) -> Made
+) -> Written
     requires { ⌜ (shaped envelope (now tables) ≡ true) × (rowCount envelope (now tables) ≤ length (now marks)) × (relation < relationCount envelope) ⌝ }
-    ensures { λ r. ⌜ (r ≡ shownMade (fitted (length (now (message .entry))) (rowMessage run relation (sentRows envelope (now (tables .entry)) (now (marks .entry)) relation)))) × (now (message .exit) ≡ madeIn (now (message .entry)) (fitted (length (now (message .entry))) (rowMessage run relation (sentRows envelope (now (tables .entry)) (now (marks .entry)) relation)))) ⌝ }
+    ensures { λ r. ⌜ (r ≡ writtenOf (fitted (length (now (message .entry))) (rowMessage run relation (sentRows envelope (now (tables .entry)) (now (marks .entry)) relation)))) × (now (message .exit) ≡ writtenIn (now (message .entry)) (fitted (length (now (message .entry))) (rowMessage run relation (sentRows envelope (now (tables .entry)) (now (marks .entry)) relation)))) ⌝ }
 {
     let extent = tables::offsets::extent_of(envelope, tables, relation);
     let columns = contents::kept::kept_columns(envelope, relation);
@@ -100,7 +101,7 @@ pub(crate) fn put_row_message(
     let width = ground::used::in_use(8, columns.count);
     let length = ends::messages::FRONT + count * width;
     if message.len() < length {
-        return Made::Refused {
+        return Written::Refused {
             number: refusals::TOO_SHORT,
             position: 0,
         };
@@ -112,5 +113,5 @@ pub(crate) fn put_row_message(
         count as u32,
     );
     put_rows(tables, marks, extent, numbers, columns.count, message);
-    Made::Length(length)
+    Written::Length(length)
 }
