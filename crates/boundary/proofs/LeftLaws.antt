@@ -15,7 +15,7 @@ use Rattle.ground.specs.Outcome.{Outcome, next}
 use Rattle.ground.specs.Outcome.Outcome.{good}
 use Rattle.ground.specs.Refusing.{test}
 use Rattle.ground.proofs.OutcomeLaws.{next-good}
-use Rattle.ground.proofs.RefusingLaws.{judged-good}
+use Rattle.ground.proofs.RefusingLaws.{judged-good, each-passes}
 use Rattle.fields.specs.Refusals.{beyondLimit, tooShort}
 use Rattle.contents.specs.Parts.{relationCount}
 use Rattle.contents.specs.declared.envelope.Envelope.{Envelope}
@@ -33,7 +33,6 @@ use Rattle.ends.specs.declared.ends.End.{End}
 use Rattle.ends.proofs.EndLaws.{here-below}
 use Rattle.station.specs.Opening.{openOf}
 use Rattle.station.specs.Receiving.{Held, appliedTo, withApplied, withArrived, receiveOf}
-use Rattle.station.proofs.CallLaws.{each-passes}
 use Rattle.station.proofs.OpeningLaws.{open-facts}
 use Rattle.station.proofs.ReceivingLaws.{Taken, with-facts}
 use Rattle.boundary.specs.States.{unclear, endOf, appliedIn, arrivedIn, stateAfter}

@@ -11,7 +11,7 @@ use Rattle.ground.specs.Outcome.{Outcome, next}
 use Rattle.ground.specs.Outcome.Outcome.{good, bad}
 use Rattle.ground.specs.Refusing.{Test, test, judged}
 use Rattle.ground.proofs.EveryLaws.{every-at}
-use Rattle.ground.proofs.OutcomeLaws.{good-bad, next-bad}
+use Rattle.ground.proofs.OutcomeLaws.{good-bad, next-bad, turned-bad}
 use Rattle.ground.proofs.RefusingLaws.{judged-number}
 use Rattle.fields.specs.Refusals.{beyondLimit, wrongShape, tooShort, waiting, notOurs, notSound}
 use Rattle.contents.specs.Parts.{relationCount}
@@ -19,14 +19,14 @@ use Rattle.contents.specs.Kept.{keptColumns}
 use Rattle.contents.specs.declared.envelope.Envelope.{Envelope}
 use Rattle.envelopes.specs.Envelope.{checkEnvelope}
 use Rattle.paths.specs.Meaning.{answerWords}
-use Rattle.papers.specs.Checks.{papersOf}
 use Rattle.papers.specs.declared.checks.Papers.{Papers}
 use Rattle.tables.specs.Shape.{shaped}
-use Rattle.ends.specs.Ends.{overApplied, soundEnd}
+use Rattle.ends.specs.Ends.{soundEnd}
 use Rattle.ends.specs.Messages.{runOf, secondOf, aboutOf, counted}
 use Rattle.ends.specs.declared.messages.About.{About}
 use Rattle.ends.specs.declared.messages.About.the-variants.{Step, Rows, Nothing}
 use Rattle.ends.specs.declared.ends.End.{End}
+use Rattle.ends.proofs.SoundLaws.{sound-number}
 use Rattle.answerer.specs.Answer.{fitted, answerChecked, answerOutcome}
 use Rattle.answerer.specs.Stores.{messageLength, metBy, messageAt, dueIn, layStored, laysFrom, sourceHeld, sourceOf, heldBy}
 use Rattle.answerer.specs.Sources.{noLay}
@@ -112,14 +112,9 @@ module _ (e : Envelope) (run : ℕ) (words : List ℕ) where
 
   held-number : (arrived : List Bool) (n u : ℕ) → sourceHeld e run arrived words ≡ bad n u → n ≡ notSound
   unfolding sourceHeld
-  held-number arrived n u h = go (next-bad (laysFrom e run words (dueIn e arrived) arrived (replicate 8 noLay) 0) _ n u h)
-    where
-      go : (laysFrom e run words (dueIn e arrived) arrived (replicate 8 noLay) 0 ≡ bad n u)
-          ⊎ ((l : List Lay) × (p : ℕ) × (laysFrom e run words (dueIn e arrived) arrived (replicate 8 noLay) 0 ≡ good l p)
-          × (_≡_ {A = Outcome Source} (good (record { count = relationCount e; lays = l }) p) (bad n u)))
-          → n ≡ notSound
-      go (inl z) = lays-number (dueIn e arrived) arrived (replicate 8 noLay) 0 n u z
-      go (inr (l, p, _, z)) = absurd (good-bad _ p n u z)
+  held-number arrived n u h =
+      lays-number (dueIn e arrived) arrived (replicate 8 noLay) 0 n u
+      (turned-bad _ (laysFrom e run words (dueIn e arrived) arrived (replicate 8 noLay) 0) n u h)
 
 source-number : (e : Envelope) (x : End) (store : List ℕ) (n u : ℕ) → sourceOf e x store ≡ bad n u → n ≡ notSound
 unfolding sourceOf
@@ -155,30 +150,15 @@ with-number q x store out n u h = go (judged-number (test (not (eqb (x .site) (q
     go (inl m) = Memᴰ·append-left (notSound ∷ waiting ∷ tooShort ∷ []) m
     go (inr z) = List·Memᴰ·tail (rest (next-bad (sourceOf (q .envelope) x store) _ n u z))
 
--- the papers' refusal, or 4
-pub sound-number : (x : End) (n u : ℕ) → soundEnd x ≡ bad n u → (ownPapers x ≡ bad n u) ⊎ (n ≡ beyondLimit)
-unfolding soundEnd
-sound-number x n u h = go (next-bad (papersOf (x .envelope) (x .program)) _ n u h)
-  where
-    go : (ownPapers x ≡ bad n u)
-        ⊎ ((q : Papers) × (p : ℕ) × (ownPapers x ≡ good q p)
-        × (judged (test (overApplied (q .program) (relationCount (q .envelope)) (x .applied)) beyondLimit 0 ∷ []) (good q p) ≡ bad n u))
-        → (ownPapers x ≡ bad n u) ⊎ (n ≡ beyondLimit)
-    go (inl k) = inl k
-    go (inr (q, p, _, k)) =
-        inr
-        (one-number beyondLimit (test (overApplied (q .program) (relationCount (q .envelope)) (x .applied)) beyondLimit 0 ∷ []) (good q p) (refl, tt)
-        (λ n u z. absurd (good-bad q p n u z)) n u k)
-
 pub end-number : (x : End) (store out : List ℕ) (n u : ℕ) → assembledOutcome x store out ≡ bad n u
     → (ownPapers x ≡ bad n u) ⊎ List·Memᴰ n (beyondLimit ∷ notOurs ∷ notSound ∷ waiting ∷ tooShort ∷ [])
 unfolding assembledOutcome
 end-number x store out n u h = go (next-bad (soundEnd x) _ n u h)
   where
-    first : (ownPapers x ≡ bad n u) ⊎ (n ≡ beyondLimit)
+    first : (ownPapers x ≡ bad n u) ⊎ (List·Memᴰ n (beyondLimit ∷ []) × (u ≡ 0))
         → (ownPapers x ≡ bad n u) ⊎ List·Memᴰ n (beyondLimit ∷ notOurs ∷ notSound ∷ waiting ∷ tooShort ∷ [])
     first (inl k) = inl k
-    first (inr k) = inr (List·Memᴰ·head k)
+    first (inr (listed, _)) = inr (Memᴰ·append-left (notOurs ∷ notSound ∷ waiting ∷ tooShort ∷ []) listed)
 
     go : (soundEnd x ≡ bad n u) ⊎ ((q : Papers) × (p : ℕ) × (soundEnd x ≡ good q p) × (assembledWith q x store out ≡ bad n u))
         → (ownPapers x ≡ bad n u) ⊎ List·Memᴰ n (beyondLimit ∷ notOurs ∷ notSound ∷ waiting ∷ tooShort ∷ [])

@@ -2,31 +2,25 @@
 -- arrived; until then it says which is the first missing.
 use mathlib.Core.Path.{_≡_, ap, _∙_}
 use mathlib.Core.Bool.{true, false}
-use mathlib.Core.List.{List, [], map}
+use mathlib.Core.List.{List, []}
 use Prim.Native.Nat.{ℕ, _≤_, _<_}
-use lib.ListN.{length, take, length-map}
+use lib.ListN.{length, take}
 use Rattle.ground.specs.Outcome.Outcome.{good, bad}
-use Rattle.ground.proofs.EveryLaws.{every-of, every-mapped}
 use Rattle.fields.specs.Refusals.{waiting}
 use Rattle.contents.specs.Parts.{relationCount}
-use Rattle.contents.specs.Kept.{keptColumns}
 use Rattle.contents.specs.declared.envelope.Envelope.{Envelope}
 use Rattle.envelopes.specs.Rules.{Within}
-use Rattle.paths.specs.Meaning.{Row, wordIn, answerWords}
+use Rattle.paths.specs.Meaning.{answerWords}
 use Rattle.papers.specs.declared.programs.Program.{Program}
-use Rattle.tables.specs.Rows.{SameRows, keptRows}
-use Rattle.semijoin.specs.Promise.{Covers}
 use Rattle.ends.specs.Ends.{hasArrived}
-use Rattle.ends.specs.Messages.{rowMessage, rowsOf}
 use Rattle.station.specs.Making.{sentRows}
 use Rattle.station.specs.Receiving.{Held}
-use Rattle.ends.proofs.MessageLaws.{Wide, row-rows}
 use Rattle.answerer.specs.Stores.{sourceHeld, heldBy, SoundRows}
 use Rattle.answerer.specs.Assembly.{answerOver, assembledOutcome}
 use Rattle.answerer.specs.declared.sources.Source.{Source}
 use Rattle.answerer.proofs.StoreLaws.{held-lies}
 use Rattle.answerer.proofs.AssemblyLaws.{Assembles, assembly-waits, assembly-answers}
-use Rattle.answerer.proofs.DeliveredLaws.{sentOf, Delivered, delivered-answer}
+use Rattle.answerer.proofs.DeliveredLaws.{Delivered, made-delivered, delivered-answer}
 use Rattle.demands.specs.Link.{Crew, Allowed, State, lentStore}
 use Rattle.demands.specs.DemandThree.{LowerMade, Lower}
 use Rattle.demands.specs.DemandThree.Made.{values, rows}
@@ -35,19 +29,6 @@ use Rattle.demands.proofs.AppendedLaws.{held-map}
 use Rattle.demands.proofs.SoundLaws.{lent-used, lent-same}
 use Rattle.demands.proofs.SaidLaws.{value-rows, rows-rows}
 use Rattle.demands.proofs.ReadyLaws.{assembly-few}
-
--- ---- rows that were sent
-
-module _ (e : Envelope) (words marks : List ℕ) (r : ℕ) where
-  pub sent-wide : Wide (length (keptColumns e r)) (sentRows e words marks r)
-  unfolding sentRows
-  sent-wide =
-      every-mapped (λ (row : Row). length row ≡ length (keptColumns e r)) (sentOf e r) (keptRows e words marks r)
-      (every-of _ (keptRows e words marks r) (λ row _. length-map (keptColumns e r) (wordIn row)))
-
-  pub sent-back : (run : ℕ) → rowsOf (length (keptColumns e r)) (rowMessage run r (sentRows e words marks r)) ≡ map (sentOf e r) (keptRows e words marks r)
-  unfolding sentRows
-  sent-back run = row-rows run r (sentRows e words marks r) (length (keptColumns e r)) sent-wide
 
 module _ (c : Crew) (w : Allowed c) where
   abbrev e : Envelope
@@ -63,21 +44,11 @@ module _ (c : Crew) (w : Allowed c) where
   held-delivered : (s : State) → Lower c s → (r : ℕ) (m : List ℕ) → Kept c (s .made) r m → Delivered e within (c .run) (c .whole) r m
   held-delivered s low r m (there, sound) = go (low .made m there)
     where
-      made-of : (k : ℕ) (words marks : List ℕ) → SoundRows e (c .run) k m → m ≡ rowMessage (c .run) k (sentRows e words marks k)
-          → SameRows e k words (c .whole) → Covers e (c .whole) words marks k → Delivered e within (c .run) (c .whole) k m
-      made-of k words marks whole is same covers =
-          record {
-            sound = whole;
-            by = (words, marks);
-            body = ap (rowsOf (length (keptColumns e k))) is ∙ sent-back e words marks k (c .run);
-            known = (same, covers);
-          }
-
       go : LowerMade c m → Delivered e within (c .run) (c .whole) r m
       go (values n vs few is holds) = absurd (value-rows c w m n vs few is r (sound .about))
       go (rows k words marks few is same covers) =
           let t : k ≡ r = rows-rows c w m k (sentRows e words marks k) few is r (sound .about) in
-          rw t at (made-of k words marks (rw t sound) is same covers)
+          rw (← t, is) (made-delivered e within (c .run) (c .whole) (w .sizes) k few words marks same covers)
 
   module _ (s : State) (sound : Sound c s) (behind out : List ℕ) where
     abbrev x : Held

@@ -24,14 +24,14 @@ use Rattle.tables.specs.Shape.{marksTests, columnTests}
 use Rattle.tables.proofs.CallLaws.{values-number as gathered-number, values-stay}
 use Rattle.semijoin.specs.Marks.{marksAfter}
 use Rattle.semijoin.proofs.CallPromiseLaws.{call-promise}
-use Rattle.ends.proofs.SoundLaws.{firstNumbers, usable-number}
+use Rattle.ends.proofs.SoundLaws.{firstNumbers, sound-number, usable-number}
 use Rattle.station.proofs.OpeningLaws.{open-number, open-untouched}
 use Rattle.station.proofs.MakingLaws.{values-number, rows-number, made-untouched}
 use Rattle.station.proofs.ReceivingLaws.{lastNumbers, received-number, received-marks, received-store, received-end}
 use Rattle.answerer.specs.Answer.{answeredIn}
 use Rattle.demands.proofs.StructPapers.{check-struct, papers-struct}
 use Rattle.demands.proofs.PaperLaws.{read-number, check-number, program-read-number, program-check-number, papers-number, write-refused, plan-refused, estimate-refused}
-use Rattle.demands.proofs.AnswerNumbers.{tables-number, sound-number, end-number}
+use Rattle.demands.proofs.AnswerNumbers.{tables-number, end-number}
 use Rattle.demands.specs.DemandOne.{EveryCall}
 
 -- ---- what was lent stays
@@ -112,7 +112,7 @@ demand-one e p x s words marks store out =
       reducing = λ values a. (λ n u h. call-promise .reduce-number e words values a marks n u h .0, marks-stay marks _);
       in-one-place = (λ n u h. only-number (call-promise .run-number e p words marks n u h), marks-stay marks _);
       opening = λ site run. (λ n u h. only-number (open-number site run words marks e p n u h), open-untouched site run words marks e p);
-      sound = λ n u h. one-of (sound-number x n u h);
+      sound = λ n u h. only-number (sound-number x n u h);
       ready = λ k n u h. only-number (usable-number x words k n u h);
       making-values = λ step. (
         λ n u h. first-or firstNumbers (notOurs ∷ waiting ∷ tooShort ∷ []) n u (values-number x words marks step (length out) n u h),

@@ -17,7 +17,6 @@ pub mod StartLaws
 pub mod SaidLaws
 pub mod LowerLaws
 pub mod UpperLaws
-pub mod GoingLaws
 pub mod ReadyLaws
 pub mod OrderlyLaws
 pub mod AssembledLaws

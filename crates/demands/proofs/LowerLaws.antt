@@ -1,8 +1,7 @@
 -- The lower half holds in every state: no row that takes part in an answer is lost, at any site or in any message.
 use mathlib.Core.Path.{_≡_, sym, ap, _∙_}
 use mathlib.Core.Bool.{true}
-use mathlib.Core.List.{List, _∷_, List·Memᴰ, List·Memᴰ·cases-cons}
-use mathlib.Core.Logic.{_⊎_, inl, inr}
+use mathlib.Core.List.{List}
 use Prim.Native.Nat.{ℕ, _≤_, _<_}
 use native.Mathlib.Decide.{ℕ-discrete}
 use lib.ListN.{getD}
@@ -24,19 +23,18 @@ use Rattle.semijoin.proofs.PromiseLaws.{promise}
 use Rattle.ends.specs.Reducing.{stepCount, stepOf}
 use Rattle.ends.specs.Messages.{secondOf, bodyOf, aboutOf}
 use Rattle.station.specs.Making.{sentRows, makeValuesOf, makeRowsOf}
-use Rattle.station.specs.Receiving.{Held, receiveOf}
+use Rattle.station.specs.Receiving.{Held}
 use Rattle.ends.specs.declared.messages.About.the-variants as about
 use Rattle.ends.proofs.EndLaws.{here-below}
 use Rattle.ends.proofs.MessageLaws.{step-below}
-use Rattle.demands.specs.Link.{Crew, Allowed, State, Bears, start, Event, Possible, withTaken, lentStore, after}
-use Rattle.demands.specs.Link.Event.{makesValues, makesRows, comes}
+use Rattle.demands.specs.Link.{Crew, Allowed, State, Bears, start, Event, Possible, after}
 use Rattle.demands.specs.DemandThree.{LowerMade, Lower}
 use Rattle.demands.specs.DemandThree.Made.{values, rows}
 use Rattle.demands.proofs.TakenLaws.{SoundAt, Sound, values-by, rows-by}
 use Rattle.station.proofs.MakingLaws.{with-values, with-rows}
-use Rattle.demands.proofs.SoundLaws.{Change, changes, taken-at, taken-made}
+use Rattle.demands.proofs.SoundLaws.{Change}
 use Rattle.demands.proofs.SoundLaws.Change.{refused, reduces, arrives}
-use Rattle.demands.proofs.StartLaws.{opened-marks, made-cases, own-made}
+use Rattle.demands.proofs.StartLaws.{opened-marks, holding-next}
 use Rattle.demands.proofs.SaidLaws.{step-legal, value-step, rows-step}
 
 module _ (c : Crew) (w : Allowed c) where
@@ -116,33 +114,9 @@ module _ (c : Crew) (w : Allowed c) where
 
   -- ---- every event
 
-  lower-more : (s : State) (m : List ℕ) → Lower c s → LowerMade c m → Lower c (record { at = s .at; made = m ∷ s .made })
-  lower-more s m low new =
-      record {
-        kept = low .kept;
-        made = λ n there. go n (List·Memᴰ·cases-cons there);
-      }
-    where
-      go : (n : List ℕ) → (n ≡ m) ⊎ List·Memᴰ n (s .made) → LowerMade c n
-      go n (inl t) = rw t new
-      go n (inr t) = low .made n t
-
   pub lower-next : (s : State) (x : Event) → Sound c s → Lower c s → Possible c s x → Lower c (after c s x)
-  unfolding after
-  lower-next s (makesValues site n room) sound low small =
-      made-cases s (Lower c) _ low λ m u h.
-      lower-more s m low (lower-values (s .made) site small (s .at site) (sound site small) (λ r. low .kept site r small) m u n room h)
-  lower-next s (makesRows site r room) sound low small =
-      made-cases s (Lower c) _ low λ m u h.
-      lower-more s m low (lower-rows (s .made) site small (s .at site) (sound site small) (λ r. low .kept site r small) m u r room h)
-  lower-next s (comes site m behind) sound low (small, which) =
-      let store = lentStore (s .at site) behind in
-      let o = receiveOf (s .at site .end) (c .tables site) (s .at site .marks) store m in
-      let at-sites : (k : ℕ) → k ≤ 7 → LowerAt k (withTaken s site store o .at k) =
-      taken-at s site store o LowerAt (λ k l r. low .kept k r l)
-      (lower-change site (s .at site) store m (λ r. low .kept site r small) (λ own. low .made m (own-made c s m which own)) _
-      (changes c w (s .made) site small (s .at site) (sound site small) store m)) in
-      record {
-        kept = λ k r l. at-sites k l r;
-        made = rw (taken-made s site store o) (low .made);
-      }
+  lower-next s x sound low possible =
+      let (kept, made) =
+      holding-next c w LowerAt (LowerMade c) lower-values lower-rows (λ made site y store m _. lower-change site y store m) s x sound possible
+      (λ site small r. low .kept site r small, low .made) in
+      record { kept = λ site r small. kept site small r; made = made }

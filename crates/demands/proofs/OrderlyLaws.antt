@@ -11,6 +11,7 @@ use lib.Seq.{sets, getD-set-same, getD-set-other}
 use Rattle.ground.specs.Lists.{below, numbersFrom}
 use Rattle.ground.specs.Outcome.Outcome.{good}
 use Rattle.ground.proofs.CountLaws.{split}
+use Rattle.ground.proofs.OutcomeLaws.{leaves-good}
 use Rattle.entries.specs.Places.{place}
 use Rattle.contents.specs.Parts.{relationCount}
 use Rattle.contents.specs.Sites.{siteOf, isAt}
@@ -20,21 +21,19 @@ use Rattle.tables.specs.Shape.{shaped}
 use Rattle.tables.proofs.ShapeLaws.{shaped-shape, words-fit}
 use Rattle.ends.specs.Reducing.{stepCount, stepsBefore}
 use Rattle.ends.specs.Ends.{appliedOf, hasArrived, startOf}
-use Rattle.ends.specs.Messages.{rowMessage, aboutOf}
+use Rattle.ends.specs.Messages.{rowMessage}
 use Rattle.station.specs.Making.{makeRowsOf, sentRows}
 use Rattle.station.specs.Receiving.{Held, withArrived, taken, receiveOf}
 use Rattle.ends.specs.declared.ends.End.{End}
-use Rattle.ends.proofs.MessageLaws.{about-rows, row-run, row-second}
-use Rattle.station.proofs.MadeLaws.{rows-counted}
+use Rattle.ends.proofs.EndLaws.{no-steps, none-arrived}
+use Rattle.station.proofs.MakingLaws.{RowsMade, rows-go}
+use Rattle.station.proofs.DeliveredLaws.{rows-arrive}
 use Rattle.station.proofs.RoomLaws.{message-most}
 use Rattle.demands.specs.Link.{Crew, Allowed, State, start, Event, Possible, withMade, withTaken, lentStore, after, afterAll, Follows}
 use Rattle.demands.specs.Orderly.{sendsStep, bringsStep, sendsRows, bringsRows, inTurn, inOrder, IsTaken, AllTaken, Happens, InOrder}
-use Rattle.demands.proofs.TakenLaws.{SoundAt, Sound, received, rows-by}
+use Rattle.demands.proofs.TakenLaws.{SoundAt, Sound, received, good-papers, rows-by}
 use Rattle.demands.proofs.SoundLaws.{taken-here, taken-there}
-use Rattle.demands.proofs.StartLaws.{opened, opening-good, opened-end, no-steps, none-arrived, sound-start, sound-next}
-use Rattle.demands.proofs.SaidLaws.{steps-few}
-use Rattle.demands.proofs.GoingLaws.{rows-go, rows-come}
-use Rattle.station.proofs.CallLaws.{leaves-good}
+use Rattle.demands.proofs.StartLaws.{opened, opening-good, opened-end, sound-start, sound-next}
 use Rattle.demands.proofs.ReadyLaws.{at-own, site-few, assembly-few, Ready, lent-room, step-done}
 use Rattle.paths.specs.Meaning.{Table}
 use Rattle.ends.proofs.ReducingLaws.{before-most}
@@ -87,15 +86,18 @@ module _ (c : Crew) (w : Allowed c) (room : ℕ) (wide : 16400 ≤ room) where
           shaped-shape e words shape .within,
         )
 
-    sent-three : 3 ≤ length sent
-    unfolding rowMessage
-    sent-three = omega arith
+    made-by : RowsMade (c .papers) (from .end) (c .tables sender) (from .marks) k sent
+    made-by =
+        record {
+          here = rw (s-from .place) (at-own c w k few);
+          ready = omega (arith, ready .applied sender k (site-few c w k few) (at-own c w k few));
+          is = refl;
+        }
 
     made : makeRowsOf (from .end) (c .tables sender) (from .marks) k room ≡ good sent (length sent)
     made =
         rows-by c w (s .made) sender (site-few c w k few) from s-from k room
-        ∙ rows-go (c .papers) (from .end) (c .tables sender) (from .marks) k room (rw (s-from .place) (at-own c w k few))
-        (omega (arith, ready .applied sender k (site-few c w k few) (at-own c w k few))) sent-few
+        ∙ rows-go (from .end) (c .tables sender) (from .marks) k room (c .papers) sent made-by sent-few
 
     abbrev mid : State
     mid = record { at = s .at; made = sent ∷ s .made }
@@ -113,11 +115,8 @@ module _ (c : Crew) (w : Allowed c) (room : ℕ) (wide : 16400 ≤ room) where
     came : receiveOf (to .end) (c .tables A) (to .marks) store sent ≡ good now 0
     came =
         received c w (s .made) A (assembly-few c w) to s-to store sent
-        ∙ rows-come (c .papers) (to .end) (c .tables A) (to .marks) store sent sent-three
-        (row-run (from .end .run) k rows ∙ s-from .run ∙ sym (s-to .run)) k
-        (ap (aboutOf (stepCount p) (relationCount e)) (row-second (from .end .run) k rows)
-        ∙ about-rows (stepCount p) (relationCount e) k (omega (arith, steps-few c w)) few)
-        (s-to .place) (rows-counted e (c .tables sender) (from .marks) shape k (from .end .run)) (ready .awaited k (omega arith))
+        ∙ rows-arrive (c .papers) (good-papers c w) (from .end) (c .tables sender) (from .marks) shape (to .end) (s-to .run ∙ sym (s-from .run))
+        (c .tables A) (to .marks) store sent k made-by (s-to .place) (ready .awaited k (omega arith))
         (omega (arith, lent-room c w to room (s-to .used), sent-few))
 
     abbrev then : State
@@ -226,7 +225,7 @@ module _ (c : Crew) (w : Allowed c) (room : ℕ) (wide : 16400 ≤ room) where
       }
     where
       none-before : (r : ℕ) → stepsBefore p r 0 ≡ 0
-      none-before r = omega (arith, before-most p 0 r)
+      none-before r = omega (arith, before-most p r 0)
 
   -- one list of events after another
   follows-all : (xs ys : List Event) (s : State) → Follows c s xs → Follows c (afterAll c s xs) ys → Follows c s (xs ++ ys)

@@ -12,7 +12,7 @@ use Rattle.ground.specs.Tests.{pick}
 use Rattle.ground.specs.Outcome.{Outcome, next, verdictOf}
 use Rattle.ground.specs.Outcome.Outcome.{good, bad}
 use Rattle.ground.specs.declared.Verdict.the-variants.{Refused}
-use Rattle.ground.proofs.OutcomeLaws.{never, good-bad, next-bad}
+use Rattle.ground.proofs.OutcomeLaws.{never, next-bad, turned-bad}
 use Rattle.fields.specs.Refusals.{tooShort}
 use Rattle.fields.specs.Puts.{frontOf, frontIn, writtenOf, writtenIn}
 use Rattle.fields.specs.declared.puts.Written.{Written}
@@ -71,15 +71,10 @@ papers-by {A} e p n u h first second = go (next-bad (checkEnvelope e) _ n u h)
     made : Envelope → Program → ℕ → Outcome Papers
     made f q at = good (record { envelope = f; program = q }) at
 
-    rest : (f : Envelope) → (programAgainst f (programBytes p) ≡ bad n u)
-        ⊎ ((q : Program) × (v : ℕ) × (programAgainst f (programBytes p) ≡ good q v) × (made f q v ≡ bad n u)) → A
-    rest f (inl z) = second f z
-    rest f (inr (q, v, _, z)) = absurd (good-bad (record { envelope = f; program = q }) v n u z)
-
     go : (checkEnvelope e ≡ bad n u)
         ⊎ ((f : Envelope) × (v : ℕ) × (checkEnvelope e ≡ good f v) × (next (programAgainst f (programBytes p)) (made f) ≡ bad n u)) → A
     go (inl z) = first z
-    go (inr (f, _, _, z)) = rest f (next-bad (programAgainst f (programBytes p)) (made f) n u z)
+    go (inr (f, _, _, z)) = second f (turned-bad _ (programAgainst f (programBytes p)) n u z)
 
 pub papers-number : (e : Envelope) (p : Program) (n u : ℕ) → papersOf e p ≡ bad n u → List·Memᴰ n papersNumbers
 papers-number e p n u h = papers-by e p n u h (λ z. List·Memᴰ·tail (check-number e n u z)) (λ f z. against-number f (programBytes p) n u z)

@@ -15,6 +15,7 @@ use Rattle.ground.specs.Outcome.Outcome.{good}
 use Rattle.ground.proofs.TestLaws.{and-right, and-both}
 use Rattle.ground.proofs.ListLaws.{any-of}
 use Rattle.ground.proofs.NumbersLaws.{below-mem}
+use Rattle.ground.proofs.OutcomeLaws.{leaves-good}
 use Rattle.entries.specs.Places.{place}
 use Rattle.contents.specs.Parts.{relationCount}
 use Rattle.contents.specs.Sites.{siteOf, isAt, holds}
@@ -28,20 +29,18 @@ use Rattle.tables.proofs.ShapeLaws.{place-relation, shaped-shape}
 use Rattle.tables.proofs.ValueLaws.{no-more-values}
 use Rattle.ends.specs.Reducing.{stepCount, stepOf, stepsBefore}
 use Rattle.ends.specs.Ends.{appliedOf, hasArrived}
-use Rattle.ends.specs.Messages.{valueMessage, bodyOf, aboutOf}
+use Rattle.ends.specs.Messages.{valueMessage, bodyOf}
 use Rattle.station.specs.Making.{makeValuesOf}
 use Rattle.station.specs.Receiving.{Held, appliedTo, withApplied, receiveOf}
-use Rattle.ends.proofs.MessageLaws.{about-step, value-run, value-second}
-use Rattle.station.proofs.MadeLaws.{values-sound}
+use Rattle.ends.proofs.ReducingLaws.{before-own, before-other}
+use Rattle.station.proofs.MakingLaws.{ValuesMade, values-go}
+use Rattle.station.proofs.DeliveredLaws.{values-arrive}
 use Rattle.demands.specs.Link.{Crew, Allowed, State, Possible, withMade, withTaken, lentStore, after}
 use Rattle.demands.specs.Orderly.{sendsStep, bringsStep, IsTaken}
 use Rattle.demands.proofs.TakenLaws.{SoundAt, Sound, received, good-papers, values-by}
-use Rattle.demands.proofs.RunLaws.{before-own, before-other}
 use Rattle.demands.proofs.SoundLaws.{taken-here, taken-there}
 use Rattle.demands.proofs.StartLaws.{sound-next}
 use Rattle.demands.proofs.SaidLaws.{step-legal}
-use Rattle.demands.proofs.GoingLaws.{values-go, values-come}
-use Rattle.station.proofs.CallLaws.{leaves-good}
 
 -- ---- where relations are
 
@@ -132,15 +131,19 @@ module _ (c : Crew) (w : Allowed c) where
           let few-rows = shaped-shape e (c .tables sender) (w .shapes sender (site-few b right-there)) .few b in
           omega (arith, wide, no-more-values e (c .tables sender) (from .marks) (stepOf p n .right), few-rows)
 
-      sent-three : 3 ≤ length sent
-      unfolding valueMessage
-      sent-three = omega arith
+      made-by : ValuesMade (c .papers) (from .end) (c .tables sender) (from .marks) n sent
+      made-by =
+          record {
+            exists = few;
+            here = rw (s-from .place) (at-own b right-there);
+            ready = omega (arith, ready .applied sender b (site-few b right-there) (at-own b right-there));
+            is = refl;
+          }
 
       made : makeValuesOf (from .end) (c .tables sender) (from .marks) n room ≡ good sent (length sent)
       made =
           values-by c w (s .made) sender (site-few b right-there) from s-from n room
-          ∙ values-go (c .papers) (from .end) (c .tables sender) (from .marks) n room few (rw (s-from .place) (at-own b right-there))
-          (omega (arith, ready .applied sender b (site-few b right-there) (at-own b right-there))) sent-few
+          ∙ values-go (from .end) (c .tables sender) (from .marks) n room (c .papers) sent made-by sent-few
 
       abbrev mid : State
       mid = record { at = s .at; made = sent ∷ s .made }
@@ -163,13 +166,9 @@ module _ (c : Crew) (w : Allowed c) where
       came : receiveOf (to .end) (c .tables receiver) (to .marks) store sent ≡ good now 0
       came =
           received c w (s .made) receiver (site-few a left-there) to s-to store sent
-          ∙ values-come (c .papers) (to .end) (c .tables receiver) (to .marks) store sent sent-three
-          (value-run (from .end .run) n (risingValues e (c .tables sender) (from .marks) (stepOf p n .right)) ∙ s-from .run ∙ sym (s-to .run)) n
-          (ap (aboutOf (stepCount p) (relationCount e)) (value-second (from .end .run) n (risingValues e (c .tables sender) (from .marks) (stepOf p n .right)))
-          ∙ about-step (stepCount p) (relationCount e) n few)
-          (rw (s-to .place) (at-own a left-there))
-          (values-sound e (c .tables sender) (from .marks) (w .shapes sender (site-few b right-there)) (from .end .run) n (stepOf p n .right))
-          (ready .applied receiver a (site-few a left-there) (at-own a left-there))
+          ∙ values-arrive (c .papers) (good-papers c w) (from .end) (c .tables sender) (from .marks) (w .shapes sender (site-few b right-there))
+          (to .end) (s-to .run ∙ sym (s-from .run)) (c .tables receiver) (to .marks) store sent n made-by (rw (s-to .place) (at-own a left-there))
+          (sym (ready .applied receiver a (site-few a left-there) (at-own a left-there)))
 
       abbrev then : State
       then = withTaken mid receiver store (good now 0)

@@ -7,21 +7,15 @@ use Prim.Native.Nat.{ℕ, _+_, _≤_, _<_}
 use native.Mathlib.Nat.{min-le-left}
 use native.Mathlib.Decide.{ℕ-discrete}
 use native.Mathlib.Omega.{arith}
-use lib.ListN.{length, getD, set, length-map}
+use lib.ListN.{length, getD, set}
 use lib.Seq.{sets, getD-set-same, getD-set-other}
-use Rattle.ground.specs.Lists.{filter, below}
 use Rattle.ground.specs.Outcome.{Outcome}
 use Rattle.ground.specs.Outcome.Outcome.{good}
-use Rattle.ground.proofs.ListLaws.{filter-length}
-use Rattle.ground.proofs.NumbersLaws.{below-length}
+use Rattle.ground.proofs.OutcomeLaws.{leaves-good}
 use Rattle.contents.specs.Parts.{relationCount}
 use Rattle.contents.specs.Kept.{keptColumns}
 use Rattle.contents.specs.declared.envelope.Envelope.{Envelope}
 use Rattle.papers.specs.declared.programs.Program.{Program}
-use Rattle.tables.specs.Offsets.{countIn}
-use Rattle.tables.proofs.ShapeLaws.{shaped-shape}
-use Rattle.tables.specs.Rows.{rowOf, keptAt, SameRows, keptRows}
-use Rattle.tables.proofs.RowLaws.{same-counts, kept-are}
 use Rattle.ends.specs.Reducing.{stepCount}
 use Rattle.ends.specs.Ends.{hasArrived, startOf}
 use Rattle.ends.specs.Messages.{runOf, secondOf, aboutOf, counted}
@@ -29,10 +23,10 @@ use Rattle.station.specs.Making.{sentRows}
 use Rattle.station.specs.Receiving.{Held, appliedTo, withApplied, withArrived, receiveOf}
 use Rattle.ends.specs.declared.messages.About.the-variants as about
 use Rattle.ends.specs.declared.ends.End.{End}
-use Rattle.station.proofs.CallLaws.{leaves-good}
-use Rattle.ends.proofs.MessageLaws.{about-rows, rows-below, row-run, row-front, row-counted}
+use Rattle.ends.proofs.MessageLaws.{about-rows, rows-below, row-run, row-front}
+use Rattle.station.proofs.MadeLaws.{rows-counted}
+use Rattle.station.proofs.DeliveredLaws.{rows-come}
 use Rattle.station.proofs.RoomLaws.{mostOf, message-most, heldBy, held-within, room-suffices}
-use Rattle.answerer.proofs.DeliveredLaws.{sentOf}
 use Rattle.demands.specs.Link.{Crew, Allowed, State, Bears, siteOpened, start, Event, Possible, withTaken, lentStore, after}
 use Rattle.demands.specs.Link.Event.{makesValues, makesRows, comes}
 use Rattle.demands.specs.DemandThree.{LowerMade, Lower}
@@ -42,9 +36,7 @@ use Rattle.demands.proofs.SoundLaws.{Change, changes, taken-here, taken
 use Rattle.demands.proofs.SoundLaws.Change.{refused, reduces, arrives}
 use Rattle.demands.proofs.StartLaws.{opened-end, made-cases, own-made}
 use Rattle.demands.proofs.SaidLaws.{steps-few, value-rows, rows-rows}
-use Rattle.demands.proofs.GoingLaws.{rows-come}
 use Rattle.demands.proofs.ReadyLaws.{assembly-few}
-use Rattle.demands.proofs.AssembledLaws.{sent-wide}
 
 module _ (c : Crew) (w : Allowed c) where
   abbrev e : Envelope
@@ -55,19 +47,6 @@ module _ (c : Crew) (w : Allowed c) where
 
   -- ---- a row message that was made
 
-  few-rows : (k : ℕ) (words marks : List ℕ) → SameRows e k words (c .whole) → length (sentRows e words marks k) ≤ 4096
-  unfolding sentRows
-  few-rows k words marks same =
-      omega (
-        arith,
-        length-map (keptRows e words marks k) (sentOf e k),
-        ap length (kept-are e words marks k) ∙ length-map (filter (keptAt e words marks k) (below (countIn e words k))) (rowOf e words k),
-        filter-length (keptAt e words marks k) (below (countIn e words k)),
-        below-length (countIn e words k),
-        same-counts e words (c .whole) k same,
-        shaped-shape e (c .whole) (w .sizes) .few k,
-      )
-
   -- it is no longer than its relation's row message can be, and sound
   row-known : (m : List ℕ) (r : ℕ) → LowerMade c m → aboutOf 0 (relationCount e) (secondOf m) ≡ about.Rows r
       → (length m ≤ mostOf e (c .whole) r) × (counted (length (keptColumns e r)) m ≡ true) × (runOf m ≡ c .run) × (3 ≤ length m)
@@ -76,7 +55,7 @@ module _ (c : Crew) (w : Allowed c) where
       let t : k ≡ r = rows-rows c w m k (sentRows e words marks k) few is r spoken in
       rw (← t, is) (
         message-most e (c .whole) words marks (c .run) k same,
-        row-counted (c .run) k (sentRows e words marks k) (length (keptColumns e k)) (sent-wide e words marks k) (few-rows k words marks same),
+        rows-counted e words marks (c .whole) (w .sizes) k same (c .run),
         row-run (c .run) k (sentRows e words marks k),
         row-front (c .run) k (sentRows e words marks k),
       )

@@ -3,15 +3,12 @@
 use mathlib.Core.Path.{_≡_, sym, ap, _∙_}
 use mathlib.Core.Bool.{true}
 use mathlib.Core.List.{List, [], _∷_, _++_}
-use Prim.Native.Nat.{ℕ, zero, suc, _+_, _-_, _≤_, _<_, min}
+use Prim.Native.Nat.{ℕ, zero, suc, _+_, _-_, _≤_, _<_}
 use native.Mathlib.Decide.{ℕ-discrete}
 use native.Mathlib.Omega.{arith}
-use lib.ListN.{length, take, replicate, length-append}
+use lib.ListN.{take, replicate}
 use lib.Seq.{take-suc, take-all}
-use borrow.Author.Tests.{eq-eqb, ne-eqb}
-use Rattle.ground.specs.Lists.{filter, below}
 use Rattle.ground.proofs.CountLaws.{split}
-use Rattle.ground.proofs.NumbersLaws.{filter-below}
 use Rattle.contents.specs.declared.envelope.Envelope.{Envelope}
 use Rattle.papers.specs.Programs.{noStep, stepsOf}
 use Rattle.paths.specs.declared.steps.Step.{Step}
@@ -23,76 +20,10 @@ use Rattle.tables.specs.Values.{valuesOf}
 use Rattle.semijoin.specs.Run.{stepped, steppedAll}
 use Rattle.semijoin.proofs.PromiseLaws.{promise}
 use Rattle.semijoin.proofs.CallPromiseLaws.{call-promise}
-use Rattle.ends.specs.Reducing.{stepCount, stepOf, reduces, reducing, stepsBefore}
+use Rattle.ends.specs.Reducing.{stepCount, stepOf, stepsBefore}
+use Rattle.ends.proofs.ReducingLaws.{before-own, before-mono}
 use Rattle.demands.specs.Link.{Crew}
 use Rattle.demands.specs.DemandThree.{runAfter}
-
--- ---- how many steps of a relation stand before a number
-
-module _ (p : Program) (r : ℕ) where
-  abbrev steps : List Step
-  steps = stepsOf p
-
-  before-one : (n : ℕ) → n < stepCount p → stepsBefore p r (suc n) ≡ length (filter (reduces steps r) (below n) ++ filter (reduces steps r) (n ∷ []))
-  unfolding stepsBefore reducing
-  before-one n h =
-      let s : min (suc n) (length steps) ≡ n + 1 = omega arith in
-      ap (λ k. length (filter (reduces steps r) (below k))) s ∙ ap (λ (l : List ℕ). length l) (filter-below (reduces steps r) n)
-
-  before-here : (n : ℕ) → n < stepCount p → stepsBefore p r n ≡ length (filter (reduces steps r) (below n))
-  unfolding stepsBefore reducing
-  before-here n h =
-      let s : min n (length steps) ≡ n = omega arith in
-      ap (λ k. length (filter (reduces steps r) (below k))) s
-
-  -- a step of the relation counts, another does not
-  pub before-own : (n : ℕ) → n < stepCount p → stepOf p n .left .relation ≡ r → stepsBefore p r (suc n) ≡ stepsBefore p r n + 1
-  unfolding reduces stepOf
-  before-own n h t =
-      let one : filter (reduces steps r) (n ∷ []) ≡ n ∷ [] = rw (eq-eqb (stepOf p n .left .relation) r t) in
-      omega (
-        arith,
-        before-one n h,
-        ap (λ (l : List ℕ). length (filter (reduces steps r) (below n) ++ l)) one,
-        length-append (filter (reduces steps r) (below n)) (n ∷ []),
-        before-here n h,
-      )
-
-  pub before-other : (n : ℕ) → n < stepCount p → (stepOf p n .left .relation ≡ r → ⊥) → stepsBefore p r (suc n) ≡ stepsBefore p r n
-  unfolding reduces stepOf
-  before-other n h t =
-      let one : filter (reduces steps r) (n ∷ []) ≡ [] = rw (ne-eqb (stepOf p n .left .relation) r t) in
-      let nil : List ℕ = [] in
-      omega (
-        arith,
-        before-one n h,
-        ap (λ (l : List ℕ). length (filter (reduces steps r) (below n) ++ l)) one,
-        length-append (filter (reduces steps r) (below n)) nil,
-        before-here n h,
-      )
-
-  pub before-past : (n : ℕ) → stepCount p ≤ n → stepsBefore p r (suc n) ≡ stepsBefore p r n
-  unfolding stepsBefore reducing
-  before-past n h =
-      let s : min (suc n) (length steps) ≡ min n (length steps) = omega arith in
-      ap (λ k. length (filter (reduces steps r) (below k))) s
-
-  before-rises : (n : ℕ) → stepsBefore p r n ≤ stepsBefore p r (suc n)
-  before-rises n =
-      split (stepCount p) n (λ h. omega (arith, before-past n h)) λ h. go h (ℕ-discrete (stepOf p n .left .relation) r)
-    where
-      go : n < stepCount p → Dec (stepOf p n .left .relation ≡ r) → stepsBefore p r n ≤ stepsBefore p r (suc n)
-      go h (yes t) = omega (arith, before-own n h t)
-      go h (no t) = omega (arith, before-other n h t)
-
-  before-more : (n d : ℕ) → stepsBefore p r n ≤ stepsBefore p r (n + d)
-  before-more n zero = let s : n + 0 ≡ n = omega arith in rw s (omega arith)
-  before-more n (suc d) = let s : n + suc d ≡ suc (n + d) = omega arith in rw s (omega (arith, before-more n d, before-rises (n + d)))
-
-  pub before-mono : (n k : ℕ) → n ≤ k → stepsBefore p r n ≤ stepsBefore p r k
-  before-mono n k h = let s : n + (k - n) ≡ k = omega arith in rw s at (before-more n (k - n))
-
--- ---- the run
 
 steps-append : (e : Envelope) (words : List ℕ) (a b : List Step) (marks : List ℕ)
     → steppedAll e words (a ++ b) marks ≡ steppedAll e words b (steppedAll e words a marks)

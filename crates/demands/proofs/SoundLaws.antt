@@ -4,17 +4,17 @@ use mathlib.Core.Path.{_≡_, refl, sym, ap, _∙_}
 use mathlib.Core.Bool.{Bool, true, false, _&&_}
 use mathlib.Core.List.{List, [], _∷_, _++_, List·Memᴰ, List·Memᴰ·tail}
 use mathlib.Core.Logic.{inl, inr}
-use Prim.Native.Nat.{ℕ, suc, _+_, _-_, _≤_, _<_}
+use Prim.Native.Nat.{ℕ, _+_, _-_, _≤_, _<_}
 use native.Mathlib.Decide.{ℕ-discrete}
 use native.Mathlib.Omega.{arith}
-use lib.ListN.{length, getD, take, drop, set, length-set, length-append}
-use lib.Seq.{sets, sets-eq, take-at, length-take-le, length-sets, getD-set-same, getD-set-other}
+use lib.ListN.{length, take, length-set, length-append}
+use lib.Seq.{sets, take-at, length-take-le, length-sets}
 use lib.Dec.{ltb, leb}
 use borrow.Author.Tests.{eq-eqb, ne-eqb, le-ltb}
 use Rattle.ground.specs.Tests.{pick}
 use Rattle.ground.specs.Outcome.{Outcome}
 use Rattle.ground.specs.Outcome.Outcome.{good, bad}
-use Rattle.ground.proofs.OutcomeLaws.{never}
+use Rattle.ground.proofs.OutcomeLaws.{never, leaves-good, leaves-bad}
 use Rattle.contents.specs.Parts.{relationCount}
 use Rattle.contents.specs.Sites.{isAt}
 use Rattle.contents.specs.Kept.{keptColumns}
@@ -28,13 +28,13 @@ use Rattle.station.specs.Receiving.{Held, appliedTo, withApplied, withArrived, 
 use Rattle.ends.specs.declared.messages.About.the-variants as about
 use Rattle.ends.specs.declared.ends.End.{End}
 use Rattle.station.proofs.ReceivingLaws.{Taken, with-facts}
-use Rattle.station.proofs.CallLaws.{leaves-good, leaves-bad}
+use Rattle.ends.proofs.EndLaws.{here-below}
+use Rattle.ends.proofs.ReducingLaws.{applied-within}
 use Rattle.ends.proofs.MessageLaws.{step-below, rows-below}
 use Rattle.answerer.specs.Stores.{SoundRows}
-use Rattle.answerer.proofs.DeliveredLaws.{one-more}
+use Rattle.answerer.proofs.DeliveredLaws.{arrived-held}
 use Rattle.demands.specs.Link.{Crew, Allowed, State, Bears, withTaken, lentStore}
 use Rattle.demands.proofs.TakenLaws.{Kept, SoundAt, received}
-use Rattle.demands.proofs.RunLaws.{before-own, before-mono}
 use Rattle.demands.proofs.AppendedLaws.{held-map}
 
 -- ---- what a message that comes does to a site
@@ -139,14 +139,6 @@ module _ (c : Crew) (made : List (List ℕ)) (site : ℕ) (x : Held) (s : SoundA
   pub lent-same : take (x .end .used) (lentStore x behind) ≡ take (x .end .used) (x .store)
   lent-same = take-at (take (x .end .used) (x .store)) behind (x .end .used) front
 
-  appended : x .end .used + length m ≤ length lent → take (x .end .used + length m) (sets lent (x .end .used) m) ≡ take (x .end .used) (x .store) ++ m
-  appended room =
-      let long : length (take (x .end .used) lent ++ m) ≡ x .end .used + length m =
-      omega (arith, length-append (take (x .end .used) lent) m, length-take-le (x .end .used) lent lent-used) in
-      ap (λ (l : List ℕ). take (x .end .used + length m) l) (sets-eq m lent (x .end .used) room)
-      ∙ take-at (take (x .end .used) lent ++ m) (drop (x .end .used + length m) lent) (x .end .used + length m) long
-      ∙ ap (λ (l : List ℕ). l ++ m) lent-same
-
   pub stays-sound : (Bears (c .run) m → List·Memᴰ m made) → (h : Held) → Change c site x (lentStore x behind) m h → SoundAt c made site h
   unfolding withApplied appliedTo withArrived
   stays-sound there h (refused is) =
@@ -171,7 +163,7 @@ module _ (c : Crew) (made : List (List ℕ)) (site : ℕ) (x : Held) (s : SoundA
         place = s .place;
         run = s .run;
         eight = length-set (x .end .applied) r (appliedOf (x .end) r + 1) ∙ s .eight;
-        few = λ k h. one k h (ℕ-discrete k r);
+        few = λ k h. applied-within (c .papers .program) (x .end .applied) n last inside next k (s .few k h);
         arrivals = s .arrivals;
         marks = promise (c .papers .envelope) .as-many (c .tables site) (bodyOf m) (x .marks) (stepOf (c .papers .program) n .left) ∙ s .marks;
         used = lent-used;
@@ -184,23 +176,10 @@ module _ (c : Crew) (made : List (List ℕ)) (site : ℕ) (x : Held) (s : SoundA
       last : n < stepCount (c .papers .program)
       last = step-below (stepCount (c .papers .program)) (relationCount (c .papers .envelope)) (secondOf m) n spoken
 
-      one : (k : ℕ) → k < relationCount (c .papers .envelope) → Dec (k ≡ stepOf (c .papers .program) n .left .relation)
-          → getD (set (x .end .applied) (stepOf (c .papers .program) n .left .relation) (appliedOf (x .end) (stepOf (c .papers .program) n .left .relation) + 1)) k 0
-          ≤ stepsBefore (c .papers .program) k (stepCount (c .papers .program))
-      one k h (yes t) =
-          let q = stepOf (c .papers .program) n .left .relation in
-          let small : q < length (x .end .applied) = omega (arith, s .eight, h, t) in
-          rw t
-          (omega (
-            arith,
-            getD-set-same (x .end .applied) q (appliedOf (x .end) q + 1) 0 small,
-            next,
-            before-own (c .papers .program) q n last refl,
-            before-mono (c .papers .program) q (suc n) (stepCount (c .papers .program)) last,
-          ))
-      one k h (no t) =
-          rw (getD-set-other (x .end .applied) (stepOf (c .papers .program) n .left .relation) k (appliedOf (x .end) (stepOf (c .papers .program) n .left .relation) + 1) 0 t)
-          (s .few k h)
+      inside : r < length (x .end .applied)
+      inside =
+          let eight : relationCount (c .papers .envelope) ≤ 8 = omega arith in
+          omega (arith, eight, s .eight, here-below (c .papers .envelope) site r here)
   stays-sound there h (arrives r spoken own here whole new room is) =
       rw is
       (record {
@@ -213,9 +192,7 @@ module _ (c : Crew) (made : List (List ℕ)) (site : ℕ) (x : Held) (s : SoundA
         arrivals = length-set (x .end .arrived) r true ∙ s .arrivals;
         marks = s .marks;
         used = rw (length-sets lent (x .end .used) m) room;
-        stored =
-            rw (appended room)
-            (one-more (c .papers .envelope) (Kept c made) r m (there own, sound) (x .end .arrived) (take (x .end .used) (x .store)) (s .stored) few-arrived new);
+        stored = arrived-held (c .papers .envelope) (Kept c made) r m (there own, sound) (x .end) lent room (rw lent-same (s .stored)) few-arrived new;
       })
     where
       few-arrived : r < length (x .end .arrived)

@@ -1,8 +1,7 @@
 -- The upper half holds in every state: what is kept and what is sent is kept by the one-place run, after as many steps.
 use mathlib.Core.Path.{_≡_, refl, sym, ap, _∙_}
 use mathlib.Core.Bool.{true}
-use mathlib.Core.List.{List, [], _∷_, List·Memᴰ, List·Memᴰ·cases-cons}
-use mathlib.Core.Logic.{_⊎_, inl, inr}
+use mathlib.Core.List.{List, []}
 use Prim.Native.Nat.{ℕ, suc, _+_, _≤_, _<_}
 use native.Mathlib.Decide.{ℕ-discrete}
 use native.Mathlib.Omega.{arith}
@@ -29,21 +28,21 @@ use Rattle.ends.specs.Reducing.{stepCount, stepOf, stepsBefore}
 use Rattle.ends.specs.Ends.{appliedOf, startOf}
 use Rattle.ends.specs.Messages.{secondOf, bodyOf, aboutOf}
 use Rattle.station.specs.Making.{sentRows, makeValuesOf, makeRowsOf}
-use Rattle.station.specs.Receiving.{Held, appliedTo, withApplied, withArrived, receiveOf}
+use Rattle.station.specs.Receiving.{Held, appliedTo, withApplied, withArrived}
 use Rattle.ends.specs.declared.messages.About.the-variants as about
 use Rattle.ends.specs.declared.ends.End.{End}
-use Rattle.ends.proofs.EndLaws.{here-below}
+use Rattle.ends.proofs.EndLaws.{here-below, no-steps}
 use Rattle.ends.proofs.MessageLaws.{step-below}
-use Rattle.demands.specs.Link.{Crew, Allowed, State, Bears, start, Event, Possible, withTaken, lentStore, after}
-use Rattle.demands.specs.Link.Event.{makesValues, makesRows, comes}
+use Rattle.demands.specs.Link.{Crew, Allowed, State, Bears, start, Event, Possible, after}
 use Rattle.demands.specs.DemandThree.{runAfter, UpperMade, Upper}
 use Rattle.demands.specs.DemandThree.Made.{values, rows}
 use Rattle.demands.proofs.TakenLaws.{SoundAt, Sound, values-by, rows-by}
 use Rattle.station.proofs.MakingLaws.{with-values, with-rows}
-use Rattle.demands.proofs.RunLaws.{before-own, before-mono, run-none, run-step, run-still}
-use Rattle.demands.proofs.SoundLaws.{Change, changes, taken-at, taken-made}
+use Rattle.ends.proofs.ReducingLaws.{before-own, before-mono}
+use Rattle.demands.proofs.RunLaws.{run-none, run-step, run-still}
+use Rattle.demands.proofs.SoundLaws.{Change}
 use Rattle.demands.proofs.SoundLaws.Change.{refused, reduces, arrives}
-use Rattle.demands.proofs.StartLaws.{opened-end, opened-marks, no-steps, made-cases, own-made}
+use Rattle.demands.proofs.StartLaws.{opened-end, opened-marks, holding-next}
 use Rattle.demands.proofs.SaidLaws.{value-step, rows-step}
 
 module _ (c : Crew) (w : Allowed c) where
@@ -189,34 +188,8 @@ module _ (c : Crew) (w : Allowed c) where
 
   -- ---- every event
 
-  upper-more : (s : State) (m : List ℕ) → Upper c s → UpperMade c m → Upper c (record { at = s .at; made = m ∷ s .made })
-  upper-more s m up new =
-      record {
-        kept = up .kept;
-        made = λ n there. go n (List·Memᴰ·cases-cons there);
-      }
-    where
-      go : (n : List ℕ) → (n ≡ m) ⊎ List·Memᴰ n (s .made) → UpperMade c n
-      go n (inl t) = rw t new
-      go n (inr t) = up .made n t
-
   pub upper-next : (s : State) (x : Event) → Sound c s → Upper c s → Possible c s x → Upper c (after c s x)
-  unfolding after
-  upper-next s (makesValues site n room) sound up small =
-      made-cases s (Upper c) _ up λ m u h.
-      upper-more s m up (upper-values (s .made) site small (s .at site) (sound site small) (λ r n. up .kept site r n small) m u n room h)
-  upper-next s (makesRows site r room) sound up small =
-      made-cases s (Upper c) _ up λ m u h.
-      upper-more s m up (upper-rows (s .made) site small (s .at site) (sound site small) (λ r n. up .kept site r n small) m u r room h)
-  upper-next s (comes site m behind) sound up (small, which) =
-      let store = lentStore (s .at site) behind in
-      let o = receiveOf (s .at site .end) (c .tables site) (s .at site .marks) store m in
-      let at-sites : (k : ℕ) → k ≤ 7 → UpperAt k (withTaken s site store o .at k) =
-      taken-at s site store o UpperAt (λ k l r n. up .kept k r n l)
-      (upper-change (s .made) site (s .at site) store m (sound site small) (λ r n. up .kept site r n small)
-      (λ own. up .made m (own-made c s m which own)) _
-      (changes c w (s .made) site small (s .at site) (sound site small) store m)) in
-      record {
-        kept = λ k r n l. at-sites k l r n;
-        made = rw (taken-made s site store o) (up .made);
-      }
+  upper-next s x sound up possible =
+      let (kept, made) =
+      holding-next c w UpperAt (UpperMade c) upper-values upper-rows upper-change s x sound possible (λ site small r n. up .kept site r n small, up .made) in
+      record { kept = λ site r n small. kept site small r n; made = made }

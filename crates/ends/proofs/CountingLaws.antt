@@ -1,7 +1,7 @@
 -- General: a loop that counts the numbers at which a test holds, and the number that stands at some place among them.
 use mathlib.Core.Path.{_≡_, refl, ap, sym, _∙_}
 use mathlib.Core.Bool.{Bool, true, false}
-use mathlib.Core.List.{[], _∷_, _++_, append-nil}
+use mathlib.Core.List.{List, [], _∷_, _++_, append-nil}
 use Prim.Native.Nat.{ℕ, suc, _+_, _-_, _≤_, _<_}
 use native.Mathlib.Omega.{arith}
 use lib.ListN.{length, getD, length-append}
@@ -9,6 +9,15 @@ use lib.Seq.{getD-at}
 use Rattle.ground.specs.Lists.{filter, below, numbersFrom}
 use Rattle.ground.proofs.ListLaws.{filter-append, filter-length}
 use Rattle.ground.proofs.NumbersLaws.{below-length, filter-below, numbers-append}
+
+-- up to a later number it holds at no fewer
+pub counted-more : (f : ℕ → Bool) (n k : ℕ) → n ≤ k → length (filter f (below n)) ≤ length (filter f (below k))
+counted-more f n k h =
+    let s : k ≡ n + (k - n) = omega arith in
+    let behind = filter f (numbersFrom (0 + n) (k - n)) in
+    let parts : filter f (below k) ≡ filter f (below n) ++ behind =
+    ap (λ j. filter f (below j)) s ∙ ap (filter f) (numbers-append 0 n (k - n)) ∙ filter-append f (below n) (numbersFrom (0 + n) (k - n)) in
+    omega (arith, ap (λ (l : List ℕ). length l) parts, length-append (filter f (below n)) behind)
 
 -- of n numbers i are looked at, and the test held at count of them
 pub record Counting (f : ℕ → Bool) (n i count : ℕ) : Type 0 where

@@ -4,7 +4,7 @@ use mathlib.Core.Bool.{Bool, true, false}
 use mathlib.Core.List.{List, [], _∷_}
 use Prim.Native.Nat.{ℕ, _+_, _≤_, _<_, min}
 use native.Mathlib.Omega.{arith}
-use lib.ListN.{length, getD, length-take, List·getD-eq-default}
+use lib.ListN.{length, getD, replicate, length-take, getD-replicate, length-replicate, List·getD-eq-default}
 use borrow.Author.Tests.{lt-ltb, le-ltb, ltb-true}
 use Rattle.ground.specs.Lists.{filter, below}
 use Rattle.ground.specs.Outcome.{Outcome, next, nextOf}
@@ -12,6 +12,7 @@ use Rattle.ground.specs.Outcome.Outcome.{good, bad}
 use Rattle.ground.specs.Refusing.{test, judged, judgement}
 use Rattle.ground.specs.declared.Verdict.{Verdict}
 use Rattle.ground.specs.declared.Verdict.the-variants.{Taken, Refused}
+use Rattle.ground.proofs.CountLaws.{split}
 use Rattle.ground.proofs.SearchingLaws.{someFrom, Looking, some-more, some-found, some-none, any-numbers}
 use Rattle.ground.proofs.OutcomeLaws.{next-good}
 use Rattle.ground.proofs.RefusingLaws.{judged-good, judge-refused, judge-taken}
@@ -157,3 +158,18 @@ applied-none applied r h = sym (List·getD-eq-default applied 0 h)
 pub here-below : (e : Envelope) (site r : ℕ) → isAt e site r ≡ true → r < relationCount e
 unfolding isAt
 here-below e site r t = ltb-true _ _ (and-left _ _ t)
+
+-- ---- an end that was opened: no step is applied, and no row message has arrived
+
+-- eight times the same reads as that everywhere
+eight : {A : Type 0} (v : A) (r : ℕ) → getD (replicate 8 v) r v ≡ v
+eight v r =
+    split 8 r
+    (λ h. let few : length (replicate 8 v) ≤ r = omega (arith, h, length-replicate 8 v) in List·getD-eq-default (replicate 8 v) v few)
+    (λ h. getD-replicate 8 r v v h)
+
+pub no-steps : (r : ℕ) → _≡_ {A = ℕ} (getD (replicate 8 0) r 0) 0
+no-steps r = eight 0 r
+
+pub none-arrived : (r : ℕ) → getD (replicate 8 false) r false ≡ false
+none-arrived r = eight false r

@@ -1,13 +1,16 @@
--- The laws of the order of a relation's steps: which there are below a number, what an answer says, and what it says of a step itself.
+-- The laws of the order of a relation's steps: which there are below a number and how many, what an answer says, and what it says of a
+-- step itself.
 use mathlib.Core.Path.{_≡_, refl, ap, sym, _∙_}
 use mathlib.Core.Bool.{Bool, true, false}
-use mathlib.Core.List.{List, List·Memᴰ, [], _∷_, _++_}
-use Prim.Native.Nat.{ℕ, _+_, _≤_, _<_, min}
+use mathlib.Core.List.{List, List·Memᴰ, [], _∷_, _++_, append-nil}
+use Prim.Native.Nat.{ℕ, suc, _+_, _≤_, _<_, min}
+use native.Mathlib.Decide.{ℕ-discrete}
+use native.Mathlib.Numerals.{add-one}
 use native.Mathlib.Omega.{arith}
-use lib.ListN.{length, getD, take, length-take, length-append, List·getD-append, List·getD-eq-default}
+use lib.ListN.{length, getD, take, set, length-take, length-append, List·getD-append, List·getD-eq-default}
 use lib.Dec.{ltb}
-use lib.Seq.{getD-at, getD-take}
-use borrow.Author.Tests.{eq-eqb, lt-ltb, le-ltb}
+use lib.Seq.{getD-at, getD-take, getD-set-same, getD-set-other}
+use borrow.Author.Tests.{eq-eqb, ne-eqb, lt-ltb, le-ltb}
 use Rattle.ground.specs.Tests.{pick}
 use Rattle.ground.specs.Lists.{filter, below}
 use Rattle.ground.proofs.OutcomeLaws.{never}
@@ -22,6 +25,7 @@ use Rattle.papers.specs.declared.programs.Program.{Program}
 use Rattle.ends.specs.Reducing.{stepCount, stepOf, reduces, reducing, stepsBefore, isMissing, firstMissing, missingIn, missingOf}
 use Rattle.ends.specs.declared.reducing.Missing.{Missing}
 use Rattle.ends.specs.declared.reducing.Missing.the-variants.{First, None}
+use Rattle.ends.proofs.CountingLaws.{counted-more}
 
 module _ (steps : List Step) (count r n end : ℕ) (e : end ≡ min n (min 156 count)) where
   pub all-of : length steps ≡ 156 → reducing (take count steps) r n ≡ filter (reduces (take count steps) r) (below end)
@@ -50,15 +54,73 @@ module _ (p : Program) (n : ℕ) where
   unfolding stepOf stepsOf
   step-of x e = e
 
-  -- no more steps of a relation before n than n
-  pub before-most : (r : ℕ) → stepsBefore p r n ≤ n
+-- ---- the steps of a relation below a number, and how many there are
+
+module _ (p : Program) (r : ℕ) where
+  abbrev earlier : ℕ → List ℕ
+  earlier n = reducing (stepsOf p) r n
+
+  up-to : (n : ℕ) → n ≤ stepCount p → earlier n ≡ filter (reduces (stepsOf p) r) (below n)
+  unfolding reducing
+  up-to n h =
+      let s : min n (length (stepsOf p)) ≡ n = omega arith in
+      ap (λ k. filter (reduces (stepsOf p) r) (below k)) s
+
+  one-more : (n : ℕ) → n < stepCount p → earlier (n + 1) ≡ earlier n ++ filter (reduces (stepsOf p) r) (n ∷ [])
+  one-more n h = up-to (n + 1) (omega arith) ∙ filter-below (reduces (stepsOf p) r) n ∙ rw (up-to n (omega arith))
+
+  -- a step of the relation is one more, another is none
+  own-more : (n : ℕ) → n < stepCount p → stepOf p n .left .relation ≡ r → earlier (n + 1) ≡ earlier n ++ (n ∷ [])
+  unfolding reduces stepOf
+  own-more n h t = one-more n h ∙ rw (eq-eqb (stepOf p n .left .relation) r t)
+
+  none-more : (n : ℕ) → n < stepCount p → (stepOf p n .left .relation ≡ r → ⊥) → earlier (n + 1) ≡ earlier n
+  unfolding reduces stepOf
+  none-more n h t = one-more n h ∙ rw (ne-eqb (stepOf p n .left .relation) r t) (append-nil (earlier n))
+
+  pub before-own : (n : ℕ) → n < stepCount p → stepOf p n .left .relation ≡ r → stepsBefore p r (suc n) ≡ stepsBefore p r n + 1
+  unfolding stepsBefore
+  before-own n h t = rw (← add-one n) (ap (λ (l : List ℕ). length l) (own-more n h t) ∙ length-append (earlier n) (n ∷ []))
+
+  pub before-other : (n : ℕ) → n < stepCount p → (stepOf p n .left .relation ≡ r → ⊥) → stepsBefore p r (suc n) ≡ stepsBefore p r n
+  unfolding stepsBefore
+  before-other n h t = rw (← add-one n) (ap (λ (l : List ℕ). length l) (none-more n h t))
+
+  -- before a later number there are no fewer, and before n no more than n
+  pub before-mono : (n k : ℕ) → n ≤ k → stepsBefore p r n ≤ stepsBefore p r k
   unfolding stepsBefore reducing
-  before-most r =
+  before-mono n k h = counted-more (reduces (stepsOf p) r) (min n (length (stepsOf p))) (min k (length (stepsOf p))) (omega arith)
+
+  pub before-most : (n : ℕ) → stepsBefore p r n ≤ n
+  unfolding stepsBefore reducing
+  before-most n =
       omega (
         arith,
         filter-length (reduces (stepsOf p) r) (below (min n (length (stepsOf p)))),
         below-length (min n (length (stepsOf p))),
       )
+
+-- a step of a relation stands before the relation's last
+pub before-less : (p : Program) (n : ℕ) → n < stepCount p → stepsBefore p (stepOf p n .left .relation) n < stepsBefore p (stepOf p n .left .relation) (stepCount p)
+before-less p n h =
+    let r = stepOf p n .left .relation in
+    omega (arith, before-own p r n h refl, before-mono p r (suc n) (stepCount p) h)
+
+-- with the next step of its relation applied, no relation has more applied than the program has of it
+pub applied-within : (p : Program) (applied : List ℕ) (n : ℕ) → n < stepCount p → stepOf p n .left .relation < length applied
+    → getD applied (stepOf p n .left .relation) 0 ≡ stepsBefore p (stepOf p n .left .relation) n
+    → (r : ℕ) → getD applied r 0 ≤ stepsBefore p r (stepCount p)
+    → getD (set applied (stepOf p n .left .relation) (getD applied (stepOf p n .left .relation) 0 + 1)) r 0 ≤ stepsBefore p r (stepCount p)
+applied-within p applied n few inside due r within = go (ℕ-discrete r (stepOf p n .left .relation))
+  where
+    go : Dec (r ≡ stepOf p n .left .relation)
+        → getD (set applied (stepOf p n .left .relation) (getD applied (stepOf p n .left .relation) 0 + 1)) r 0 ≤ stepsBefore p r (stepCount p)
+    go (yes t) =
+        let own = stepOf p n .left .relation in
+        rw (t, getD-set-same applied own (getD applied own 0 + 1) 0 inside) (omega (arith, before-less p n few, due))
+    go (no t) =
+        let own = stepOf p n .left .relation in
+        rw (getD-set-other applied own r (getD applied own 0 + 1) 0 t) within
 
 module _ (p : Program) (r applied n : ℕ) where
   -- what an answer says
@@ -83,26 +145,17 @@ module _ (p : Program) (r applied n : ℕ) where
 -- a step of the relation itself, with so many applied: it is the first missing one up to it where as many stand before it; an earlier
 -- one is where fewer are applied, and none where more are
 module _ (p : Program) (r n : ℕ) (inside : n < stepCount p) (own : stepOf p n .left .relation ≡ r) where
-  abbrev earlier : List ℕ
-  earlier = reducing (stepsOf p) r n
+  abbrev before : List ℕ
+  before = reducing (stepsOf p) r n
 
-  up-to : (k : ℕ) → k ≤ stepCount p → reducing (stepsOf p) r k ≡ filter (reduces (stepsOf p) r) (below k)
-  unfolding reducing
-  up-to k h =
-      let s : min k (length (stepsOf p)) ≡ k = omega arith in
-      ap (λ j. filter (reduces (stepsOf p) r) (below j)) s
+  behind : reducing (stepsOf p) r (n + 1) ≡ before ++ (n ∷ [])
+  behind = own-more p r n inside own
 
-  behind : reducing (stepsOf p) r (n + 1) ≡ earlier ++ (n ∷ [])
-  unfolding reduces stepOf
-  behind =
-      let one : filter (reduces (stepsOf p) r) (n ∷ []) ≡ n ∷ [] = rw (eq-eqb (stepOf p n .left .relation) r own) in
-      up-to (n + 1) (omega arith) ∙ filter-below (reduces (stepsOf p) r) n ∙ rw (one, up-to n (omega arith))
+  longer : length (before ++ (n ∷ [])) ≡ length before + 1
+  longer = length-append before (n ∷ [])
 
-  longer : length (earlier ++ (n ∷ [])) ≡ length earlier + 1
-  longer = length-append earlier (n ∷ [])
-
-  lower : {k : ℕ} → List·Memᴰ k earlier → k < n
-  lower m = below-from n (filter-from (reduces (stepsOf p) r) (below n) (rw (up-to n (omega arith)) at m) .0)
+  lower : {k : ℕ} → List·Memᴰ k before → k < n
+  lower m = below-from n (filter-from (reduces (stepsOf p) r) (below n) (rw (up-to p r n (omega arith)) at m) .0)
 
   module _ (applied : ℕ) where
     pub next-itself : applied ≡ stepsBefore p r n → missingOf p r applied (n + 1) ≡ First n
@@ -110,22 +163,22 @@ module _ (p : Program) (r n : ℕ) (inside : n < stepCount p) (own : stepOf p n 
     next-itself e =
         rw (
           behind,
-          lt-ltb applied (length (earlier ++ (n ∷ []))) (omega (arith, e, longer)),
-          getD-at earlier n [] 0 applied (sym e),
+          lt-ltb applied (length (before ++ (n ∷ []))) (omega (arith, e, longer)),
+          getD-at before n [] 0 applied (sym e),
         )
 
     pub next-earlier : applied < stepsBefore p r n → (k : ℕ) × (k < n) × (missingOf p r applied (n + 1) ≡ First k)
     unfolding missingIn stepsBefore
     next-earlier h = (
-      getD earlier applied 0,
-      lower (getD-mem earlier applied 0 h),
+      getD before applied 0,
+      lower (getD-mem before applied 0 h),
       rw (
         behind,
-        lt-ltb applied (length (earlier ++ (n ∷ []))) (omega (arith, h, longer)),
-        List·getD-append earlier (n ∷ []) 0 applied h,
+        lt-ltb applied (length (before ++ (n ∷ []))) (omega (arith, h, longer)),
+        List·getD-append before (n ∷ []) 0 applied h,
       ),
     )
 
     pub next-none : stepsBefore p r n < applied → missingOf p r applied (n + 1) ≡ None
     unfolding missingIn stepsBefore
-    next-none h = rw (behind, le-ltb applied (length (earlier ++ (n ∷ []))) (omega (arith, h, longer)))
+    next-none h = rw (behind, le-ltb applied (length (before ++ (n ∷ []))) (omega (arith, h, longer)))

@@ -4,11 +4,11 @@ use mathlib.Core.Path.{_≡_, refl, ap, sym, _∙_}
 use mathlib.Core.Bool.{true, false}
 use mathlib.Core.List.{List, [], _∷_, List·Memᴰ, List·Memᴰ·tail, Memᴰ·append-left}
 use mathlib.Core.Logic.{_⊎_, inl, inr}
-use Prim.Native.Nat.{ℕ, _≤_, _<_, min}
+use Prim.Native.Nat.{ℕ, _≤_, _<_}
 use native.Mathlib.Omega.{arith}
 use lib.ListN.{length, getD}
-use borrow.Author.Tests.{ltb-true, eq-eqb}
-use Rattle.ground.specs.Lists.{filter, below}
+use borrow.Author.Tests.{ltb-true}
+use Rattle.ground.specs.Lists.{below}
 use Rattle.ground.specs.Outcome.{Outcome, next}
 use Rattle.ground.specs.Outcome.Outcome.{good, bad}
 use Rattle.ground.specs.Refusing.{test, judged}
@@ -19,7 +19,7 @@ use Rattle.ground.proofs.RefusingLaws.{judged-good, judged-none, refusal-listed
 use Rattle.ground.proofs.TestLaws.{not-holds}
 use Rattle.fields.specs.Refusals.{beyondLimit, wrongShape, tooShort}
 use Rattle.contents.specs.Parts.{relationCount}
-use Rattle.papers.specs.Programs.{programBytes, stepsOf}
+use Rattle.papers.specs.Programs.{programBytes}
 use Rattle.papers.specs.Checks.{papersOf}
 use Rattle.papers.specs.declared.programs.Program.{Program}
 use Rattle.papers.specs.declared.checks.Papers.{Papers}
@@ -27,10 +27,9 @@ use Rattle.papers.proofs.CheckLaws.{papers-complete}
 use Rattle.tables.specs.Offsets.{rowCount}
 use Rattle.tables.specs.Shape.{shaped, marksTests}
 use Rattle.tables.proofs.JudgedLaws.{marks-pass}
-use Rattle.ends.specs.Reducing.{stepCount, stepOf, reduces, reducing, stepsBefore}
+use Rattle.ends.specs.Reducing.{stepCount, stepsBefore}
 use Rattle.ends.specs.Ends.{overAt, overApplied, soundEnd, usable, papersOfEnd, Sound}
 use Rattle.ends.specs.declared.ends.End.{End}
-use Rattle.ends.proofs.CountingLaws.{counting-less}
 
 -- ---- counts of applied steps
 
@@ -43,17 +42,6 @@ module _ (p : Program) (relations : ℕ) (applied : List ℕ) where
       let (r, m, over) = any-from (overAt p applied) (below relations) t in
       let more : stepsBefore p r (stepCount p) < getD applied r 0 = ltb-true _ _ over in
       absurd (omega (arith, h r (below-from relations m)))
-
--- a step of a relation stands before the relation's last
-pub before-less : (p : Program) (n : ℕ) → n < stepCount p → stepsBefore p (stepOf p n .left .relation) n < stepsBefore p (stepOf p n .left .relation) (stepCount p)
-unfolding stepsBefore reducing stepOf reduces
-before-less p n h =
-    let r = stepOf p n .left .relation in
-    let a : min n (length (stepsOf p)) ≡ n = omega arith in
-    let b : min (length (stepsOf p)) (length (stepsOf p)) ≡ length (stepsOf p) = omega arith in
-    rw (a, b)
-    (counting-less (reduces (stepsOf p) r) (length (stepsOf p)) n (length (filter (reduces (stepsOf p) r) (below n)))
-    (record { within = omega arith; counted = refl }) h (eq-eqb r r refl))
 
 -- ---- a sound end is usable
 
@@ -93,38 +81,39 @@ own-papers x room s words n q u h =
 abbrev pub firstNumbers : List ℕ
 firstNumbers = beyondLimit ∷ wrongShape ∷ tooShort ∷ []
 
+-- an end that is not sound: the papers' own refusal, or 4 at 0
+pub sound-number : (x : End) (m p : ℕ) → soundEnd x ≡ bad m p
+    → (papersOf (x .envelope) (x .program) ≡ bad m p) ⊎ (List·Memᴰ m (beyondLimit ∷ []) × (p ≡ 0))
+unfolding soundEnd
+sound-number x m p h = go (next-bad (papersOf (x .envelope) (x .program)) _ m p h)
+  where
+    go : (papersOf (x .envelope) (x .program) ≡ bad m p)
+        ⊎ ((q : Papers) × (u : ℕ) × (papersOf (x .envelope) (x .program) ≡ good q u)
+        × (judged (test (overApplied (q .program) (relationCount (q .envelope)) (x .applied)) beyondLimit 0 ∷ []) (good q u) ≡ bad m p))
+        → (papersOf (x .envelope) (x .program) ≡ bad m p) ⊎ (List·Memᴰ m (beyondLimit ∷ []) × (p ≡ 0))
+    go (inl k) = inl k
+    go (inr (q, u, _, k)) =
+        inr (refusal-listed (test (overApplied (q .program) (relationCount (q .envelope)) (x .applied)) beyondLimit 0 ∷ []) q u m p (refl, tt) k)
+
 module _ (x : End) (words : List ℕ) (n m p : ℕ) where
   abbrev pub ToldFirst : Type 0
   ToldFirst = (papersOf (x .envelope) (x .program) ≡ bad m p) ⊎ (List·Memᴰ m firstNumbers × (p ≡ 0))
 
-  over-told : (q : Papers) (u : ℕ)
-      → judged (test (overApplied (q .program) (relationCount (q .envelope)) (x .applied)) beyondLimit 0 ∷ []) (good q u) ≡ bad m p → ToldFirst
-  over-told q u h =
-      let (listed, zero) =
-      refusal-listed (test (overApplied (q .program) (relationCount (q .envelope)) (x .applied)) beyondLimit 0 ∷ []) q u m p (refl, tt) h in
-      inr (Memᴰ·append-left (wrongShape ∷ tooShort ∷ []) listed, zero)
-
-  marks-told : (q : Papers) (u : ℕ) → judged (marksTests (q .envelope) words n) (good q u) ≡ bad m p → ToldFirst
-  marks-told q u h =
-      let (listed, zero) = refusal-listed (marksTests (q .envelope) words n) q u m p (refl, (refl, tt)) h in
-      inr (List·Memᴰ·tail listed, zero)
-
   -- the papers' own refusal, or 4, 10, 11 at 0
   pub usable-number : usable x words n ≡ bad m p → ToldFirst
-  unfolding usable soundEnd
+  unfolding usable
   usable-number h = marked (next-bad (soundEnd x) _ m p h)
     where
-      counted : (papersOf (x .envelope) (x .program) ≡ bad m p)
-          ⊎ ((q : Papers) × (u : ℕ) × (papersOf (x .envelope) (x .program) ≡ good q u)
-          × (judged (test (overApplied (q .program) (relationCount (q .envelope)) (x .applied)) beyondLimit 0 ∷ []) (good q u) ≡ bad m p))
-          → ToldFirst
-      counted (inl k) = inl k
-      counted (inr (q, u, _, k)) = over-told q u k
+      first : (papersOf (x .envelope) (x .program) ≡ bad m p) ⊎ (List·Memᴰ m (beyondLimit ∷ []) × (p ≡ 0)) → ToldFirst
+      first (inl k) = inl k
+      first (inr (listed, zero)) = inr (Memᴰ·append-left (wrongShape ∷ tooShort ∷ []) listed, zero)
 
       marked : (soundEnd x ≡ bad m p) ⊎ ((q : Papers) × (u : ℕ) × (soundEnd x ≡ good q u) × (judged (marksTests (q .envelope) words n) (good q u) ≡ bad m p))
           → ToldFirst
-      marked (inl k) = counted (next-bad (papersOf (x .envelope) (x .program)) _ m p k)
-      marked (inr (q, u, _, k)) = marks-told q u k
+      marked (inl k) = first (sound-number x m p k)
+      marked (inr (q, u, _, k)) =
+          let (listed, zero) = refusal-listed (marksTests (q .envelope) words n) q u m p (refl, (refl, tt)) k in
+          inr (List·Memᴰ·tail listed, zero)
 
   -- a call that begins so: that, or the refusal of what it does with the papers
   pub call-number : {A : Type 0} (with : Papers → Outcome A) → next (usable x words n) (λ q _. with q) ≡ bad m p

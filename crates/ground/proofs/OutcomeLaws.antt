@@ -64,6 +64,14 @@ module _ {A C : Type 0} (f : A → C) (o : Outcome A) where
       go (good a p) = refl
       go (bad n p) = refl
 
+  -- so a refusal of it is its refusal
+  pub turned-bad : (n p : ℕ) → turned o ≡ bad n p → o ≡ bad n p
+  turned-bad n p h = go o h
+    where
+      go : (o : Outcome A) → turned o ≡ bad n p → o ≡ bad n p
+      go (good a q) h = absurd (good-bad (f a) q n p h)
+      go (bad m q) h = cc
+
 -- ---- readings one after the other
 
 -- good after another: so was the other

@@ -3,9 +3,8 @@
 -- because it is not that end's (14), was there before (16), comes too early (17) or finds no room in the store (11). It is never
 -- refused as cut short, of another run, or not sound.
 use mathlib.Core.Path.{_≡_, refl, ap, sym, _∙_}
-use mathlib.Core.Bool.{Bool, true, false, not}
+use mathlib.Core.Bool.{true, false, not}
 use mathlib.Core.List.{List, [], _∷_, List·Memᴰ}
-use mathlib.Core.Logic.{_⊎_, inl, inr}
 use Prim.Native.Nat.{ℕ, _+_, _≤_, _<_}
 use native.Mathlib.Omega.{arith}
 use lib.ListN.{length}
@@ -13,8 +12,8 @@ use lib.Dec.{ltb, eqb}
 use borrow.Author.Tests.{le-ltb, eq-eqb}
 use Rattle.ground.specs.Outcome.Outcome.{good, bad}
 use Rattle.ground.specs.Refusing.{Test, test}
-use Rattle.ground.proofs.OutcomeLaws.{next-bad, good-bad}
 use Rattle.ground.proofs.RefusingLaws.{judged-insert, refusal-listed}
+use Rattle.ground.proofs.OutcomeLaws.{turned-bad}
 use Rattle.fields.specs.Refusals.{tooShort, notOurs, notSound, alreadyTaken, stepMissing}
 use Rattle.contents.specs.Parts.{relationCount}
 use Rattle.contents.specs.Sites.{isAt}
@@ -50,27 +49,16 @@ module _ (q : Papers) (y : End) (others those store m : List ℕ) where
   abbrev kept : Stored → Held
   kept s = record { end = s .end; marks = those; store = s .store }
 
-  step-refused : (n k u : ℕ) → taken q y others those store m (about.Step n) ≡ bad k u → valuesTaken q y others those m n ≡ bad k u
+  -- rows of this run that come to the assembly site, sound, where none came before and there is room: taken
+  pub rows-come : frontLength ≤ length m → runOf m ≡ y .run → (r : ℕ) → aboutOf (stepCount (q .program)) (relationCount (q .envelope)) (secondOf m) ≡ about.Rows r
+      → y .site ≡ q .program .site → counted (length (keptColumns (q .envelope) r)) m ≡ true → hasArrived y r ≡ false → y .used + length m ≤ length store
+      → receiveWith q y others those store m ≡ good (kept (rowsEffect q y store m r)) 0
   unfolding taken
-  step-refused n k u h = go (next-bad (valuesTaken q y others those m n) _ k u h)
-    where
-      go : (valuesTaken q y others those m n ≡ bad k u)
-          ⊎ ((s : Marked) × (p : ℕ) × (valuesTaken q y others those m n ≡ good s p) × (good (held s) p ≡ bad k u))
-          → valuesTaken q y others those m n ≡ bad k u
-      go (inl e) = e
-      go (inr (s, p, _, e)) = absurd (good-bad (held s) p k u e)
-
-  rows-refused : (r k u : ℕ) → taken q y others those store m (about.Rows r) ≡ bad k u → rowsTaken q y store m r ≡ bad k u
-  unfolding taken
-  rows-refused r k u h = go (next-bad (rowsTaken q y store m r) _ k u h)
-    where
-      go : (rowsTaken q y store m r ≡ bad k u)
-          ⊎ ((s : Stored) × (p : ℕ) × (rowsTaken q y store m r ≡ good s p) × (good (kept s) p ≡ bad k u)) → rowsTaken q y store m r ≡ bad k u
-      go (inl e) = e
-      go (inr (s, p, _, e)) = absurd (good-bad (kept s) p k u e)
-
-not-off : (b : Bool) → b ≡ true → not b ≡ false
-not-off b t = rw t
+  rows-come long run r says here whole first fits =
+      let found : rowsTaken q y store m r ≡ good (rowsEffect q y store m r) 0 =
+      rows-judged q y store m r
+      ∙ rw (eq-eqb (y .site) (q .program .site) here, whole, first, le-ltb (length store) (y .used + length m) fits) in
+      spoken long run (about.Rows r) says ∙ rw found
 
 module _ (q : Papers) (good-papers : GoodPapers q) (x : End) (words marks : List ℕ) (shape : shaped (q .envelope) words ≡ true) (y : End)
     (same : y .run ≡ x .run) (others those store m : List ℕ) where
@@ -107,11 +95,12 @@ module _ (q : Papers) (good-papers : GoodPapers q) (x : End) (words marks : List
 
     pub values-delivered : (k u : ℕ) → receiveWith q y others those store m ≡ bad k u
         → List·Memᴰ k (notOurs ∷ alreadyTaken ∷ stepMissing ∷ []) × (u ≡ 0)
+    unfolding taken
     values-delivered k u h =
-        let refused : valuesTaken q y others those m n ≡ bad k u = step-refused q y others those store m n k u (sym step-spoken ∙ h) in
+        let refused : valuesTaken q y others those m n ≡ bad k u = turned-bad _ (valuesTaken q y others those m n) k u (sym step-spoken ∙ h) in
         let effect = good (stepEffect q y others those m n) 0 in
         refusal-listed (ours ∷ again ∷ early ∷ []) (stepEffect q y others those m n) 0 k u (refl, (refl, (refl, tt)))
-        (sym (judged-insert (ours ∷ []) (again ∷ early ∷ []) (test (not (soundValues m)) notSound 0) effect (not-off _ sound))
+        (sym (judged-insert (ours ∷ []) (again ∷ early ∷ []) (test (not (soundValues m)) notSound 0) effect (ap not sound))
         ∙ sym (step-judged q y others those m n)
         ∙ refused)
 
@@ -133,17 +122,21 @@ module _ (q : Papers) (good-papers : GoodPapers q) (x : End) (words marks : List
     below : r < relationCount (q .envelope)
     below = here-below (q .envelope) (x .site) r (made .here)
 
-    rows-spoken : receiveWith q y others those store m ≡ taken q y others those store m (about.Rows r)
-    rows-spoken =
+    long : frontLength ≤ length m
+    long = rw (made .is) (row-front (x .run) r (sentRows (q .envelope) words marks r))
+
+    own : runOf m ≡ y .run
+    own = rw (made .is) (row-run (x .run) r (sentRows (q .envelope) words marks r) ∙ sym same)
+
+    says : aboutOf (stepCount (q .program)) (relationCount (q .envelope)) (secondOf m) ≡ about.Rows r
+    says =
         let few : stepCount (q .program) ≤ 256 = omega (arith, good-papers .acceptable .count, good-papers .acceptable .whole) in
-        spoken q y others those store m (rw (made .is) (row-front (x .run) r (sentRows (q .envelope) words marks r)))
-        (rw (made .is) (row-run (x .run) r (sentRows (q .envelope) words marks r) ∙ sym same)) (about.Rows r)
-        (rw (made .is)
+        rw (made .is)
         (ap (aboutOf (stepCount (q .program)) (relationCount (q .envelope))) (row-second (x .run) r (sentRows (q .envelope) words marks r)))
-        ∙ about-rows (stepCount (q .program)) (relationCount (q .envelope)) r few below)
+        ∙ about-rows (stepCount (q .program)) (relationCount (q .envelope)) r few below
 
     whole : counted (length (keptColumns (q .envelope) r)) m ≡ true
-    whole = rw (made .is) (rows-counted (q .envelope) words marks shape r (x .run))
+    whole = rw (made .is) (rows-counted (q .envelope) words marks words shape r refl (x .run))
 
     abbrev assembles : Test
     assembles = test (not (eqb (y .site) (q .program .site))) notOurs 0
@@ -156,22 +149,19 @@ module _ (q : Papers) (good-papers : GoodPapers q) (x : End) (words marks : List
 
     pub rows-delivered : (k u : ℕ) → receiveWith q y others those store m ≡ bad k u
         → List·Memᴰ k (notOurs ∷ alreadyTaken ∷ tooShort ∷ []) × (u ≡ 0)
+    unfolding taken
     rows-delivered k u h =
-        let refused : rowsTaken q y store m r ≡ bad k u = rows-refused q y others those store m r k u (sym rows-spoken ∙ h) in
+        let refused : rowsTaken q y store m r ≡ bad k u =
+        turned-bad _ (rowsTaken q y store m r) k u (sym (spoken q y others those store m long own (about.Rows r) says) ∙ h) in
         let effect = good (rowsEffect q y store m r) 0 in
         refusal-listed (assembles ∷ arrived ∷ full ∷ []) (rowsEffect q y store m r) 0 k u (refl, (refl, (refl, tt)))
         (sym
         (judged-insert (assembles ∷ []) (arrived ∷ full ∷ []) (test (not (counted (length (keptColumns (q .envelope) r)) m)) notSound 0) effect
-        (not-off _ whole))
+        (ap not whole))
         ∙ sym (rows-judged q y store m r)
         ∙ refused)
 
     -- taken at the assembly site where none came before and there is room
     pub rows-arrive : y .site ≡ q .program .site → hasArrived y r ≡ false → y .used + length m ≤ length store
         → receiveWith q y others those store m ≡ good (kept q y others those store m (rowsEffect q y store m r)) 0
-    unfolding taken
-    rows-arrive here first fits =
-        let found : rowsTaken q y store m r ≡ good (rowsEffect q y store m r) 0 =
-        rows-judged q y store m r
-        ∙ rw (eq-eqb (y .site) (q .program .site) here, whole, first, le-ltb (length store) (y .used + length m) fits) in
-        rows-spoken ∙ rw found
+    rows-arrive here first fits = rows-come q y others those store m long own r says here whole first fits

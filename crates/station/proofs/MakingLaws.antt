@@ -1,18 +1,19 @@
--- What making a message says: where it is taken, its facts; where it is refused, by which number, and that nothing changed.
-use mathlib.Core.Path.{_≡_}
+-- What making a message says: where it is taken, its facts, and where these hold it is; where it is refused, by which number, and that
+-- nothing changed.
+use mathlib.Core.Path.{_≡_, ap, sym, _∙_}
 use mathlib.Core.Bool.{Bool, true, _&&_}
 use mathlib.Core.List.{List, [], _∷_, List·Memᴰ, List·Memᴰ·tail, Memᴰ·append-left}
 use mathlib.Core.Logic.{_⊎_, inl, inr}
 use Prim.Native.Nat.{ℕ, _≤_, _<_}
 use lib.ListN.{length, getD}
 use lib.Dec.{ltb}
-use borrow.Author.Tests.{ltb-true, ltb-false, not-false}
+use borrow.Author.Tests.{ltb-true, ltb-false, lt-ltb, le-ltb, not-false}
 use Rattle.ground.specs.Outcome.{Outcome}
 use Rattle.ground.specs.Outcome.Outcome.{good, bad}
-use Rattle.ground.specs.Refusing.{judged}
-use Rattle.ground.proofs.OutcomeLaws.{next-good}
+use Rattle.ground.specs.Refusing.{test, judged}
+use Rattle.ground.proofs.OutcomeLaws.{next-good, good-bad}
 use Rattle.ground.proofs.RefusingLaws.{judged-good, judged-number, each-passes}
-use Rattle.ground.proofs.TestLaws.{and-left, and-right}
+use Rattle.ground.proofs.TestLaws.{and-left, and-right, and-both}
 use Rattle.fields.specs.Refusals.{tooShort, waiting, notOurs}
 use Rattle.fields.specs.Puts.{fitted}
 use Rattle.fields.proofs.PutLaws.{fitted-good, fitted-bad}
@@ -45,6 +46,11 @@ module _ (p : Program) (applied : List ℕ) (ours : Bool) (r n room : ℕ) (w : 
       let (same, enough, long) = fitted-good room w m u rest in
       (not-false _ (passed .0), ltb-false _ _ (passed .1 .0), same, rw same enough, rw same long)
 
+  -- and where these hold it is sent
+  sent-goes : ours ≡ true → stepsBefore p r n ≤ getD applied r 0 → length w ≤ room → sending ≡ good w (length w)
+  unfolding fitted isMissing
+  sent-goes here ready fits = rw (here, le-ltb (getD applied r 0) (stepsBefore p r n) ready, le-ltb room (length w) fits)
+
   sent-number : (k u : ℕ) → sending ≡ bad k u → List·Memᴰ k (notOurs ∷ waiting ∷ tooShort ∷ [])
   sent-number k u h = go (judged-number (sendTests p applied ours r n) (fitted room w) k u h)
     where
@@ -70,6 +76,15 @@ module _ (x : End) (words marks : List ℕ) (n room : ℕ) where
       sent-facts (q .program) (x .applied) (ltb n (stepCount (q .program)) && isAt (q .envelope) (x .site) r) r n room
       (valueMessage (x .run) n (risingValues (q .envelope) words marks (stepOf (q .program) n .right))) m u h in
       (record { exists = ltb-true _ _ (and-left _ _ ours); here = and-right (ltb n (stepCount (q .program))) _ ours; ready = ready; is = is }, fits, long)
+
+  pub values-go : (q : Papers) (m : List ℕ) → ValuesMade q x words marks n m → length m ≤ room → valuesWith q x words marks n room ≡ good m (length m)
+  unfolding valuesWith
+  values-go q m made fits =
+      let r = stepOf (q .program) n .right .relation in
+      let sent = valueMessage (x .run) n (risingValues (q .envelope) words marks (stepOf (q .program) n .right)) in
+      rw (made .is)
+      (sent-goes (q .program) (x .applied) (ltb n (stepCount (q .program)) && isAt (q .envelope) (x .site) r) r n room sent
+      (and-both (lt-ltb n (stepCount (q .program)) (made .exists)) (made .here)) (made .ready) (rw (made .is) at fits))
 
   pub values-facts : (m : List ℕ) (u : ℕ) → makeValuesOf x words marks n room ≡ good m u
       → (q : Papers) × Usable q words (length marks) × ValuesMade q x words marks n m × (length m ≤ room) × (u ≡ length m)
@@ -112,6 +127,13 @@ module _ (x : End) (words marks : List ℕ) (r room : ℕ) where
       sent-facts (q .program) (x .applied) (isAt (q .envelope) (x .site) r) r (stepCount (q .program)) room
       (rowMessage (x .run) r (sentRows (q .envelope) words marks r)) m u h in
       (record { here = ours; ready = ready; is = is }, fits, long)
+
+  pub rows-go : (q : Papers) (m : List ℕ) → RowsMade q x words marks r m → length m ≤ room → rowsWith q x words marks r room ≡ good m (length m)
+  unfolding rowsWith
+  rows-go q m made fits =
+      rw (made .is)
+      (sent-goes (q .program) (x .applied) (isAt (q .envelope) (x .site) r) r (stepCount (q .program)) room
+      (rowMessage (x .run) r (sentRows (q .envelope) words marks r)) (made .here) (made .ready) (rw (made .is) at fits))
 
   pub rows-facts : (m : List ℕ) (u : ℕ) → makeRowsOf x words marks r room ≡ good m u
       → (q : Papers) × Usable q words (length marks) × RowsMade q x words marks r m × (length m ≤ room) × (u ≡ length m)

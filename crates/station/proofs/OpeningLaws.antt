@@ -6,12 +6,11 @@ use mathlib.Core.List.{List, [], _∷_, List·Memᴰ}
 use mathlib.Core.Logic.{_⊎_, inl, inr}
 use Prim.Native.Nat.{ℕ, _≤_}
 use native.Mathlib.Omega.{arith}
-use lib.ListN.{length, getD, replicate, getD-replicate, List·getD-eq-default}
+use lib.ListN.{length}
 use lib.Dec.{ltb}
 use borrow.Author.Tests.{ltb-false, le-ltb, not-false}
 use Rattle.ground.specs.Outcome.Outcome.{good, bad}
 use Rattle.ground.specs.Refusing.{Test, test}
-use Rattle.ground.proofs.CountLaws.{split}
 use Rattle.ground.proofs.OutcomeLaws.{next-good, next-bad, leaves-refused}
 use Rattle.ground.proofs.RefusingLaws.{judged-good, refusal-listed, each-passes}
 use Rattle.fields.specs.Refusals.{beyondLimit, wrongShape, tooShort}
@@ -20,13 +19,14 @@ use Rattle.contents.specs.declared.envelope.Envelope.{Envelope}
 use Rattle.papers.specs.Checks.{papersOf, GoodPapers}
 use Rattle.papers.specs.declared.programs.Program.{Program}
 use Rattle.papers.specs.declared.checks.Papers.{Papers}
-use Rattle.papers.proofs.CheckLaws.{papers-sound, papers-complete}
+use Rattle.papers.proofs.CheckLaws.{papers-sound}
 use Rattle.tables.specs.Offsets.{rowCount}
 use Rattle.tables.specs.Shape.{shaped}
 use Rattle.semijoin.specs.Local.{openedIn}
 use Rattle.ends.specs.Ends.{Marked, startOf, Sound}
 use Rattle.station.specs.Opening.{openWith, openOf, openedMarks}
 use Rattle.ends.specs.declared.ends.End.{End}
+use Rattle.ends.proofs.EndLaws.{no-steps}
 
 -- ---- taken
 
@@ -89,19 +89,14 @@ module _ (site run : ℕ) (words marks : List ℕ) where
       pub open-untouched : openedMarks marks (openOf e p site run words marks) ≡ marks
       open-untouched = leaves-refused (λ (s : Marked). s .marks) marks (openOf e p site run words marks) n u h
 
-  -- good papers, tables of the shape, a site from 0 to 7 and marks enough: taken
-  pub open-complete : (q : Papers) → GoodPapers q → shaped (q .envelope) words ≡ true → site ≤ 7 → rowCount (q .envelope) words ≤ length marks
-      → openOf (q .envelope) (q .program) site run words marks ≡ good (effect q) 0
+  -- papers that are taken, tables of the shape, a site from 0 to 7 and marks enough: taken
+  pub open-complete : (e : Envelope) (p : Program) (q : Papers) (u : ℕ) → papersOf e p ≡ good q u → shaped (q .envelope) words ≡ true → site ≤ 7
+      → rowCount (q .envelope) words ≤ length marks → openOf e p site run words marks ≡ good (effect q) 0
   unfolding openOf openWith
-  open-complete q g shape small room =
-      rw (papers-complete q g, shape, le-ltb 7 site small, le-ltb (length marks) (rowCount (q .envelope) words) room)
+  open-complete e p q u read shape small room =
+      rw (read, shape, le-ltb 7 site small, le-ltb (length marks) (rowCount (q .envelope) words) room)
 
 -- ---- an opened end is sound, beside any store
-
-no-steps : (r : ℕ) → _≡_ {A = ℕ} (getD (replicate 8 0) r 0) 0
-no-steps r =
-    let zero : ℕ = 0 in
-    split 8 r (λ h. List·getD-eq-default (replicate 8 zero) zero h) (λ h. getD-replicate 8 r zero zero h)
 
 pub start-sound : (q : Papers) (site run room : ℕ) → GoodPapers q → Sound (startOf q site run) room
 unfolding startOf

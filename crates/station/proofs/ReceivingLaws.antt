@@ -12,7 +12,7 @@ use borrow.Author.Tests.{ltb-false, eqb-true, not-false}
 use Rattle.ground.specs.Outcome.{verdictOf, leaves}
 use Rattle.ground.specs.Outcome.Outcome.{good, bad}
 use Rattle.ground.specs.Refusing.{Test, test, judged}
-use Rattle.ground.proofs.OutcomeLaws.{next-good, next-bad, good-bad, leaves-refused}
+use Rattle.ground.proofs.OutcomeLaws.{next-good, good-bad, leaves-refused, turned-bad}
 use Rattle.ground.proofs.RefusingLaws.{judged-good, refusal-listed, each-passes, refusal-or}
 use Rattle.ground.proofs.PuttingLaws.{sets-stand, sets-before, sets-behind}
 use Rattle.fields.specs.Refusals.{endsInside, tooShort, otherRun, notOurs, notSound, alreadyTaken, stepMissing}
@@ -190,12 +190,6 @@ module _ (q : Papers) (x : End) (words marks store m : List ℕ) where
 
   -- ---- refused: by 1, 13, 14, 15, 16, 17, 11 at 0
 
-  abbrev held : Marked → Held
-  held s = record { end = s .end; marks = s .marks; store = store }
-
-  abbrev kept : Stored → Held
-  kept s = record { end = s .end; marks = marks; store = s .store }
-
   step-number : (n k u : ℕ) → valuesTaken q x words marks m n ≡ bad k u → List·Memᴰ k lastNumbers × (u ≡ 0)
   step-number n k u h =
       let (listed, zero) =
@@ -217,20 +211,8 @@ module _ (q : Papers) (x : End) (words marks store m : List ℕ) where
 
   about-number : (w : About) (k u : ℕ) → taken q x words marks store m w ≡ bad k u → List·Memᴰ k lastNumbers × (u ≡ 0)
   unfolding taken
-  about-number (about.Step n) k u h = go (next-bad (valuesTaken q x words marks m n) _ k u h)
-    where
-      go : (valuesTaken q x words marks m n ≡ bad k u)
-          ⊎ ((s : Marked) × (p : ℕ) × (valuesTaken q x words marks m n ≡ good s p)
-          × (good (held s) p ≡ bad k u)) → List·Memᴰ k lastNumbers × (u ≡ 0)
-      go (inl e) = step-number n k u e
-      go (inr (s, p, _, e)) = absurd (good-bad (held s) p k u e)
-  about-number (about.Rows r) k u h = go (next-bad (rowsTaken q x store m r) _ k u h)
-    where
-      go : (rowsTaken q x store m r ≡ bad k u)
-          ⊎ ((s : Stored) × (p : ℕ) × (rowsTaken q x store m r ≡ good s p)
-          × (good (kept s) p ≡ bad k u)) → List·Memᴰ k lastNumbers × (u ≡ 0)
-      go (inl e) = rows-number r k u e
-      go (inr (s, p, _, e)) = absurd (good-bad (kept s) p k u e)
+  about-number (about.Step n) k u h = step-number n k u (turned-bad _ (valuesTaken q x words marks m n) k u h)
+  about-number (about.Rows r) k u h = rows-number r k u (turned-bad _ (rowsTaken q x store m r) k u h)
   about-number about.Nothing k u h =
       let same : k ≡ notOurs = cc in
       let zero : u ≡ 0 = cc in

@@ -21,7 +21,7 @@ use Rattle.contents.specs.declared.envelope.Envelope.{Envelope}
 use Rattle.entries.specs.Places.{place}
 use Rattle.tables.specs.Offsets.{countIn, firstWord}
 use Rattle.tables.specs.Shape.{shaped}
-use Rattle.tables.specs.Rows.{keptAt, SameRows}
+use Rattle.tables.specs.Rows.{SameRows}
 use Rattle.ground.proofs.SumLaws.{sum-none, sum-below}
 use Rattle.tables.proofs.OffsetLaws.{first-none, first-more}
 use Rattle.tables.proofs.ShapeLaws.{shaped-shape}
@@ -31,7 +31,7 @@ use Rattle.ends.specs.Messages.{frontLength, rowMessage}
 use Rattle.station.specs.Making.{sentRows}
 use Rattle.station.specs.Receiving.{withArrived}
 use Rattle.ends.specs.declared.ends.End.{End}
-use Rattle.station.proofs.RowCodeLaws.{chosen, message-long}
+use Rattle.station.proofs.RowCodeLaws.{chosen, chosen-few, message-long}
 
 -- ---- one row message
 
@@ -46,13 +46,7 @@ module _ (e : Envelope) (whole : List ℕ) where
 
   pub message-most : (words marks : List ℕ) (run r : ℕ) → SameRows e r words whole → length (rowMessage run r (sentRows e words marks r)) ≤ mostOf r
   message-most words marks run r same =
-      let rows : length (chosen e words marks r) ≤ countIn e whole r =
-      omega (
-        arith,
-        filter-length (keptAt e words marks r) (below (countIn e words r)),
-        below-length (countIn e words r),
-        same-counts e words whole r same,
-      ) in
+      let rows : length (chosen e words marks r) ≤ countIn e whole r = omega (arith, chosen-few e words marks r, same-counts e words whole r same) in
       omega (arith, message-long e words marks r run, mul-le-mul rows (few-columns e r))
 
   -- ---- the messages that have arrived

@@ -9,8 +9,8 @@ use native.Mathlib.Omega.{arith}
 use lib.ListN.{length, getD, take, length-append, length-map, length-take}
 use lib.Seq.{sets, length-sets, getD-take, take-length}
 use Rattle.ground.specs.Lists.{filter, below, numbersFrom, each}
-use Rattle.ground.proofs.ListLaws.{each-append, each-map, getD-map}
-use Rattle.ground.proofs.NumbersLaws.{filter-below}
+use Rattle.ground.proofs.ListLaws.{each-append, each-map, filter-length, getD-map}
+use Rattle.ground.proofs.NumbersLaws.{below-length, filter-below}
 use Rattle.ground.proofs.PuttingLaws.{sets-append, Copying, copying-start, copying-more, copying-done}
 use Rattle.contents.specs.Kept.{keptColumns}
 use Rattle.contents.specs.declared.envelope.Envelope.{Envelope}
@@ -129,6 +129,9 @@ module _ (e : Envelope) (words marks : List ℕ) (r : ℕ) where
   abbrev pub rowWords : ℕ → List ℕ
   rowWords i = map (wordIn (rowOf e words r i)) (keptColumns e r)
 
+  pub chosen-few : length chosen ≤ countIn e words r
+  chosen-few = omega (arith, filter-length (keptAt e words marks r) (below (countIn e words r)), below-length (countIn e words r))
+
   pub sent-by : sentRows e words marks r ≡ map rowWords chosen
   unfolding sentRows
   sent-by =
@@ -144,7 +147,7 @@ module _ (e : Envelope) (words marks : List ℕ) (r : ℕ) where
   message-is run =
       rw sent-by (rw (length-map chosen rowWords, each-map rowWords (λ (row : Row). row) chosen))
 
-  row-width : (i : ℕ) → length (rowWords i) ≡ length (keptColumns e r)
+  pub row-width : (i : ℕ) → length (rowWords i) ≡ length (keptColumns e r)
   row-width i = length-map (keptColumns e r) (wordIn (rowOf e words r i))
 
   pub message-long : (run : ℕ) → length (rowMessage run r (sentRows e words marks r)) ≡ 3 + length chosen * length (keptColumns e r)

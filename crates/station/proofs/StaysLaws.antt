@@ -1,14 +1,13 @@
 -- What a taken message leaves as it was: the end's papers, site and run, the lengths of marks and store; and a sound end stays
 -- sound.
-use mathlib.Core.Path.{_≡_, ap, _∙_}
+use mathlib.Core.Path.{_≡_, sym, ap, _∙_}
 use mathlib.Core.Bool.{true}
 use mathlib.Core.List.{List}
 use mathlib.Core.Logic.{inl, inr}
 use Prim.Native.Nat.{ℕ, _+_, _≤_, _<_}
-use native.Mathlib.Decide.{ℕ-discrete}
 use native.Mathlib.Omega.{arith}
 use lib.ListN.{length, getD, set, length-set}
-use lib.Seq.{length-sets, getD-set-same, getD-set-other}
+use lib.Seq.{length-sets}
 use Rattle.ground.specs.Outcome.Outcome.{good}
 use Rattle.ground.proofs.OutcomeLaws.{next-good}
 use Rattle.contents.specs.Parts.{relationCount}
@@ -19,7 +18,8 @@ use Rattle.ends.specs.Messages.{bodyOf}
 use Rattle.station.specs.Receiving.{Held, appliedTo, withApplied, withArrived, receiveWith, receiveOf}
 use Rattle.ends.specs.declared.ends.End.{End}
 use Rattle.ends.proofs.EndLaws.{here-below}
-use Rattle.ends.proofs.SoundLaws.{before-less, own-papers}
+use Rattle.ends.proofs.ReducingLaws.{applied-within}
+use Rattle.ends.proofs.SoundLaws.{own-papers}
 use Rattle.station.proofs.ReceivingLaws.{StepTaken, RowsTaken, Taken, with-facts}
 
 -- an end afterwards, and what was lent
@@ -60,18 +60,10 @@ module _ (x : End) (words marks store m : List ℕ) where
     more-counts : (n : ℕ) (h : Held) → StepTaken (papersOfEnd x) x words marks m n (h .end) (h .marks) → (r : ℕ) → r < relationCount (x .envelope)
         → getD (set (x .applied) (stepOf (x .program) n .left .relation) (appliedOf x (stepOf (x .program) n .left .relation) + 1)) r 0
         ≤ stepsBefore (x .program) r (stepCount (x .program))
-    more-counts n h t r k = go (ℕ-discrete r own)
-      where
-        own : ℕ
-        own = stepOf (x .program) n .left .relation
-
-        go : Dec (r ≡ own)
-            → getD (set (x .applied) own (appliedOf x own + 1)) r 0 ≤ stepsBefore (x .program) r (stepCount (x .program))
-        go (yes e) =
-            let inside : own < length (x .applied) = omega (arith, here-below (x .envelope) (x .site) own (t .here), sound .eight .0) in
-            rw (e, getD-set-same (x .applied) own (appliedOf x own + 1) 0 inside)
-            (omega (arith, before-less (x .program) n (t .exists), t .due))
-        go (no d) = rw (getD-set-other (x .applied) own r (appliedOf x own + 1) 0 d) (sound .counts r k)
+    more-counts n h t r k =
+        let own = stepOf (x .program) n .left .relation in
+        let inside : own < length (x .applied) = omega (arith, here-below (x .envelope) (x .site) own (t .here), sound .eight .0) in
+        applied-within (x .program) (x .applied) n (t .exists) inside (sym (t .due)) r (sound .counts r k)
 
     step-sound : (n : ℕ) (h : Held) → StepTaken (papersOfEnd x) x words marks m n (h .end) (h .marks) → h .store ≡ store → Sound (h .end) (length (h .store))
     unfolding withApplied appliedTo

@@ -159,7 +159,7 @@ module _ (q : Papers) (g : GoodPapers q) (n : ℕ) (l : n < stepCount (q .progra
       omega (
         arith,
         next-same (q .program) n l s e done missing i b f t,
-        before-most (q .program) n (s .left .relation),
+        before-most (q .program) (s .left .relation) n,
         values-behind,
       )
 
