@@ -93,18 +93,18 @@ module _ (steps : List Step) (count r skip end : ℕ) (within : end ≤ count) (
   f = reduces (take count steps) r
 
   -- a search that goes on: so many are counted, and the rest of skip is still passed over
-  pub record Open (i place : ℕ) (c : Search) : Type 0 where
+  pub record Open (i passed : ℕ) (c : Search) : Type 0 where
     pub still : c .found ≡ false
     pub of-r : c .relation ≡ r
     pub to-end : c .end ≡ end
-    pub counted : Counting f end i place
-    pub rest : place + c .skip ≡ skip
+    pub counted : Counting f end i passed
+    pub rest : passed + c .skip ≡ skip
 
   abbrev Claim : List Step → ℕ → Search → Type 0
   Claim zs i c = Says f end skip (soughtFrom zs i c)
 
-  stopped : (i place : ℕ) (c : Search) → Open i place c → end ≤ i → Says f end skip c
-  stopped i place c o h =
+  stopped : (i passed : ℕ) (c : Search) → Open i passed c → end ≤ i → Says f end skip c
+  stopped i passed c o h =
       (λ e. absurd (not-both (sym e ∙ o .still)), λ _. omega (arith, counting-done _ _ _ _ (o .counted) h, o .rest))
 
   is-left : (i : ℕ) → i < end → f i ≡ eqb (getD steps i noStep .left .relation) r
@@ -112,49 +112,49 @@ module _ (steps : List Step) (count r skip end : ℕ) (within : end ≤ count) (
   is-left i h = rw (getD-take count steps i noStep (omega (arith, h, within))) refl
 
   -- one step below the end, by how the tests come out
-  turned : (s : Step) (ss : List Step) (i place : ℕ) (c : Search) → Open i place c → i < end → getD steps i noStep ≡ s
-      → ((place′ : ℕ) (d : Search) → Open (i + 1) place′ d → Claim ss (i + 1) d)
+  turned : (s : Step) (ss : List Step) (i passed : ℕ) (c : Search) → Open i passed c → i < end → getD steps i noStep ≡ s
+      → ((passed′ : ℕ) (d : Search) → Open (i + 1) passed′ d → Claim ss (i + 1) d)
       → (a b : Bool) → eqb (s .left .relation) (c .relation) ≡ a → eqb (c .skip) 0 ≡ b → Claim (s ∷ ss) i c
   unfolding soughtFrom
-  turned s ss i place c o h g ih true true ea eb =
+  turned s ss i passed c o h g ih true true ea eb =
       let is : f i ≡ true = is-left i h ∙ rw (g, ← (o .of-r)) ea in
       let none-left : c .skip ≡ 0 = eqb-true _ _ eb in
       let same = seen-one c s i (o .still) (omega (arith, h, o .to-end)) (eqb-true _ _ ea) none-left in
-      let at-skip : place ≡ skip = omega (arith, o .rest, none-left) in
+      let at-skip : passed ≡ skip = omega (arith, o .rest, none-left) in
       let one : Search = record { relation = c .relation; skip = c .skip; end = c .end; found = true; at = i } in
       let less : skip < length (filter f (below end)) = rw at-skip at (counting-less _ _ _ _ (o .counted) h is) in
       let there : getD (filter f (below end)) skip 0 ≡ i = rw at-skip at (counting-found _ _ _ _ (o .counted) h is) in
       subst (λ (d : Search). Says f end skip (soughtFrom ss (i + 1) d)) same
       (subst (λ (d : Search). Says f end skip d) (sym (sought-done ss (i + 1) one refl)) ((λ _. (less, there)), λ e. absurd (not-both e)))
-  turned s ss i place c o h g ih true false ea eb =
+  turned s ss i passed c o h g ih true false ea eb =
       let is : f i ≡ true = is-left i h ∙ rw (g, ← (o .of-r)) ea in
       let some-left : c .skip ≡ 0 → ⊥ = eqb-false _ _ eb in
       let same = seen-past c s i (o .still) (omega (arith, h, o .to-end)) (eqb-true _ _ ea) some-left in
       subst (λ (d : Search). Says f end skip (soughtFrom ss (i + 1) d)) same
-      (ih (place + 1) _ (record { still = o .still; of-r = o .of-r; to-end = o .to-end; counted = counting-yes _ _ _ _ (o .counted) h is; rest = omega (arith, o .rest, some-left) }))
-  turned s ss i place c o h g ih false b ea eb =
+      (ih (passed + 1) _ (record { still = o .still; of-r = o .of-r; to-end = o .to-end; counted = counting-yes _ _ _ _ (o .counted) h is; rest = omega (arith, o .rest, some-left) }))
+  turned s ss i passed c o h g ih false b ea eb =
       let is : f i ≡ false = is-left i h ∙ rw (g, ← (o .of-r)) ea in
       let same = seen-other c s i (o .still) (omega (arith, h, o .to-end)) (eqb-false _ _ ea) in
       subst (λ (d : Search). Says f end skip (soughtFrom ss (i + 1) d)) same
-      (ih place c (record { still = o .still; of-r = o .of-r; to-end = o .to-end; counted = counting-no _ _ _ _ (o .counted) h is; rest = o .rest }))
+      (ih passed c (record { still = o .still; of-r = o .of-r; to-end = o .to-end; counted = counting-no _ _ _ _ (o .counted) h is; rest = o .rest }))
 
-  by-end : (s : Step) (ss : List Step) (i place : ℕ) (c : Search) → Open i place c → getD steps i noStep ≡ s
-      → ((place′ : ℕ) (d : Search) → Open (i + 1) place′ d → Claim ss (i + 1) d) → (a : Bool) → leb end i ≡ a → Claim (s ∷ ss) i c
-  by-end s ss i place c o g ih true l =
-      rw (sought-past (s ∷ ss) i c (o .still) (omega (arith, leb-true end i l, o .to-end))) (stopped i place c o (leb-true end i l))
-  by-end s ss i place c o g ih false l = turned s ss i place c o (leb-false end i l) g ih (eqb (s .left .relation) (c .relation)) (eqb (c .skip) 0) refl refl
+  by-end : (s : Step) (ss : List Step) (i passed : ℕ) (c : Search) → Open i passed c → getD steps i noStep ≡ s
+      → ((passed′ : ℕ) (d : Search) → Open (i + 1) passed′ d → Claim ss (i + 1) d) → (a : Bool) → leb end i ≡ a → Claim (s ∷ ss) i c
+  by-end s ss i passed c o g ih true l =
+      rw (sought-past (s ∷ ss) i c (o .still) (omega (arith, leb-true end i l, o .to-end))) (stopped i passed c o (leb-true end i l))
+  by-end s ss i passed c o g ih false l = turned s ss i passed c o (leb-false end i l) g ih (eqb (s .left .relation) (c .relation)) (eqb (c .skip) 0) refl refl
 
-  pub says : (zs : List Step) (i place : ℕ) (c : Search) → drop i steps ≡ zs → Open i place c → Claim zs i c
+  pub says : (zs : List Step) (i passed : ℕ) (c : Search) → drop i steps ≡ zs → Open i passed c → Claim zs i c
   unfolding soughtFrom
-  says [] i place c e o =
+  says [] i passed c e o =
       let none : length steps - i ≡ 0 = sym (length-drop i steps) ∙ ap length e in
-      stopped i place c o (omega (arith, none, room))
-  says (s ∷ ss) i place c e o =
+      stopped i passed c o (omega (arith, none, room))
+  says (s ∷ ss) i passed c e o =
       let some : length steps - i ≡ suc (length ss) = sym (length-drop i steps) ∙ ap length e in
       let inside : i < length steps = omega (arith, some) in
       let apart : getD steps i noStep ∷ drop (suc i) steps ≡ s ∷ ss = sym (drop-cons steps i noStep inside) ∙ e in
-      by-end s ss i place c o (head-eq-of-cons-eq apart)
-      (λ place′ d od. says ss (i + 1) place′ d (ap (λ (j : ℕ). drop j steps) (one-more i) ∙ tail-eq-of-cons-eq apart) od) (leb end i) refl
+      by-end s ss i passed c o (head-eq-of-cons-eq apart)
+      (λ passed′ d od. says ss (i + 1) passed′ d (ap (λ (j : ℕ). drop j steps) (one-more i) ∙ tail-eq-of-cons-eq apart) od) (leb end i) refl
 
 -- ---- what the functions answer
 

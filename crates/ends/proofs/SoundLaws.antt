@@ -1,5 +1,4 @@
--- A sound end: its papers are taken as they stand, so that with tables of the shape and marks enough a call works on them; the
--- relations of its program's steps have their places.
+-- A sound end: its papers are taken as they stand, so that with tables of the shape and marks enough a call works on them.
 use mathlib.Core.Path.{_≡_, refl, ap, sym, _∙_}
 use mathlib.Core.Bool.{true, false}
 use mathlib.Core.List.{List, [], _∷_, List·Memᴰ, List·Memᴰ·tail, Memᴰ·append-left}

@@ -62,7 +62,7 @@ pub fn step_count(program: Program) -> u8
 }
 
 // How many of the first n steps there are.
-fn used_below(count: u8, n: usize) -> usize
+fn in_use_below(count: u8, n: usize) -> usize
     ensures { λ r. ⌜ r ≡ min n (min 156 count) ⌝ }
 {
     let end = ground::used::in_use(156, count);
@@ -121,7 +121,7 @@ fn next_step(program: Program, relation: u8, skip: u32, n: usize) -> Search
     let search = Search {
         relation,
         skip,
-        end: used_below(program.count, n),
+        end: in_use_below(program.count, n),
         found: false,
         at: 0,
     };

@@ -16,7 +16,7 @@ use Rattle.paths.proofs.PathLaws.{same-place, place-same}
 use Rattle.estimates.specs.Profile.{afterStep, localProfile}
 use Rattle.estimates.specs.Costs.{stepCost}
 use Rattle.estimates.specs.Kind.{costs, total}
-use Rattle.estimates.specs.Estimate.{sameStep, kindOf, line, linesOf, costsIn, estimated}
+use Rattle.estimates.specs.Estimate.{sameStep, kindOf, line, linesOf, lineSteps, costsIn, estimated}
 use Rattle.estimates.specs.declared.profiles.Profile.{Profile}
 use Rattle.estimates.specs.declared.costs.Costs.{Costs}
 use Rattle.estimates.specs.declared.lines.Line.{Line}
@@ -46,7 +46,7 @@ module _ (k : Costs) (e : Envelope) where
   lines-length p [] = refl
   lines-length p (s ∷ ss) = ap suc (lines-length (afterStep e p s) ss)
 
-  pub lines-steps : (p : Profile) (ss : List Step) → map (λ (l : Line). l .step) (linesOf k e p ss) ≡ ss
+  pub lines-steps : (p : Profile) (ss : List Step) → lineSteps (linesOf k e p ss) ≡ ss
   unfolding linesOf
   lines-steps p [] = refl
   lines-steps p (s ∷ ss) = ap (λ (l : List Step). s ∷ l) (lines-steps (afterStep e p s) ss)

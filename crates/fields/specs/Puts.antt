@@ -1,5 +1,6 @@
 -- "Making, answering and writing start at the front of the lent buffer, return the length written and leave the rest." Refusal
--- 11: "lent buffer too short". A refusal leaves the whole buffer.
+-- 11: "lent buffer too short". "A refusal writes nothing anywhere and changes no end." This is said here once, for papers,
+-- messages, values and answers.
 use Prim.Native.Nat.{ℕ, _+_, _≤_}
 use mathlib.Core.Path.{_≡_}
 use mathlib.Core.List.{List, [], _∷_}
@@ -13,7 +14,7 @@ use Rattle.fields.specs.Refusals.{tooShort}
 use Rattle.fields.specs.declared.puts.Written.{Written}
 use Rattle.fields.specs.declared.puts.Written.the-variants.{Length, Refused}
 
--- 11 where so many do not fit into the room that is lent
+-- bytes or words with their length, or 11 where the room that is lent is shorter
 unfoldable pub fitted : ℕ → List ℕ → Outcome (List ℕ)
 fitted room words = judged (test (ltb room (length words)) tooShort 0 ∷ []) (good words (length words))
 

@@ -9,7 +9,7 @@ ghost use Rattle.ground.specs.Bytes.{bytesOf};
 ghost use Rattle.fields.specs.Numbers.{bytesWide};
 ghost use Rattle.fields.specs.Puts.{fitted, writtenOf, writtenIn, Fronts};
 
-// The length written, or the refusal; then nothing was written.
+// The length written, in bytes or words, or the refusal; then nothing was written.
 pub enum Written {
     Length(usize),
     Refused { number: u8, position: usize },

@@ -1,4 +1,4 @@
--- The laws of specs/, under its names; of lists also by what they speak of: Every, Numbers, Sum, Combination, ListPart, Sublist.
+-- The laws of specs/, under its names (OrderedLaws, too, is of Order); of lists also by what they speak of: Every, Numbers, Sum, Combination, ListPart, Sublist.
 -- The laws of loops, kind by kind: Filling, Searching, Choosing, Least, Collecting, Sifting, Mapping, Putting, Writing.
 -- CountLaws and UsedLaws are of counts, UniqueLaws of contracts that are equations. docs/PROOFS.md says which loop takes which.
 pub mod CountLaws

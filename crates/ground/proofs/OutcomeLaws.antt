@@ -1,5 +1,5 @@
--- Laws of outcomes: what a good or a bad outcome says of the readings it is chained of, and what an answer's verdict
--- says of the outcome that it shows.
+-- Laws of outcomes: what a good or a bad outcome says of the readings it is chained of, what an answer's verdict says of the
+-- outcome that it shows, and what a call leaves.
 use mathlib.Core.Path.{_≡_, refl, ap, sym, _∙_}
 use mathlib.Core.List.{List, [], _∷_, _++_, append-assoc}
 use mathlib.Core.Logic.{_⊎_, inl, inr}

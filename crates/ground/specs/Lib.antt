@@ -1,5 +1,5 @@
 -- What every definition above is written with, no word of the field in it: Tests, Lists, Bytes (numbers as bytes), Outcome (what a
--- reading gives), Refusing (of tests in order the first that fails refuses), Searching (the first number at which a test holds),
+-- reading or a call gives), Refusing (of tests in order the first that fails refuses), Searching (the first number at which a test holds),
 -- Rising and Order of lists, Choice (the first of greatest gain), Figures (what definitions give, and what a paper says).
 pub mod Tests
 pub mod Lists

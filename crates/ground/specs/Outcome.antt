@@ -1,4 +1,4 @@
--- What reading a part of some words gives: a value with the position past it, or a refusal's number and position.
+-- What a reading or a call gives: a value with the position past it, or a refusal's number and position.
 -- Readings are chained by `next`, and several of one kind are read by `many`.
 use Prim.Native.Nat.{ℕ, zero, suc, _+_}
 use mathlib.Core.List.{List, [], _∷_, _++_}
@@ -28,7 +28,7 @@ numbered item i (suc n) at = next (item i at) (λ v p. andMore (v ∷ []) (numbe
 abbrev pub many : {A : Type 0} → (ℕ → Outcome A) → ℕ → ℕ → Outcome (List A)
 many item = numbered (λ _. item) 0
 
--- an outcome as the parts of an answer: beside a refusal stand the position 0 and the value z
+-- an outcome as the parts of an answer: beside a refusal stands the position 0
 unfoldable pub verdictOf : {A : Type 0} → Outcome A → Verdict
 verdictOf (good v p) = Taken
 verdictOf (bad n p) = Refused n p
@@ -37,12 +37,11 @@ unfoldable pub nextOf : {A : Type 0} → Outcome A → ℕ
 nextOf (good v p) = p
 nextOf (bad n p) = 0
 
--- "A refusal writes nothing anywhere and changes no end": what stands afterwards where something stood before a call,
--- by what is made of it where the call is taken
+-- what is made of the value where it is good; else what is given beside it: what stood there before, or what stands beside a refusal
 unfoldable pub leaves : {A B : Type 0} → (A → B) → B → Outcome A → B
 leaves made before (good v p) = made v
 leaves made before (bad n p) = before
 
--- the value itself, or z
+-- the value itself; beside a refusal stands z
 abbrev pub valueOf : {A : Type 0} → A → Outcome A → A
 valueOf z o = leaves (λ v. v) z o

@@ -31,7 +31,7 @@ use Rattle.papers.specs.Programs.{noStep}
 use Rattle.estimates.specs.Profile.{localProfile}
 use Rattle.estimates.specs.Costs.{plainCosts}
 use Rattle.estimates.specs.Kind.{Kind, afterAll, costs, total}
-use Rattle.estimates.specs.Estimate.{kindOf, linesOf, estimated}
+use Rattle.estimates.specs.Estimate.{kindOf, linesOf, lineSteps, estimated}
 use Rattle.estimates.specs.declared.costs.Costs.{Costs}
 use Rattle.estimates.specs.declared.lines.Line.{Line}
 use Rattle.estimates.proofs.EstimateLaws.{step-tells, lines-steps}
@@ -192,7 +192,7 @@ module _ (k : Costs) (e : Envelope) (w : Within e) where
       _ (some-site e w) noStep (λ site (s : Step). isAt e site (s .left .relation))
 
   steps-are : stepsIn (planFor k e) ≡ planned k e .steps
-  steps-are = ap (map (λ (l : Line). l .step)) (plan-lines k e) ∙ lines-steps k e (localProfile e) (planned k e .steps)
+  steps-are = ap lineSteps (plan-lines k e) ∙ lines-steps k e (localProfile e) (planned k e .steps)
 
   plan-kept : PlanKept k e (planFor k e)
   unfolding planFor estimated

@@ -21,7 +21,7 @@ use Rattle.papers.specs.Programs.{noStep}
 use Rattle.estimates.specs.Profile.{localProfile}
 use Rattle.estimates.specs.Costs.{assemblyAt}
 use Rattle.estimates.specs.Kind.{Kind, afterAll, costs, total}
-use Rattle.estimates.specs.Estimate.{kindOf, linesOf, costsIn}
+use Rattle.estimates.specs.Estimate.{kindOf, linesOf, lineSteps, costsIn}
 use Rattle.estimates.specs.declared.costs.Costs.{Costs}
 use Rattle.estimates.specs.declared.lines.Line.{Line}
 use Rattle.planner.specs.Choice.{Handed, gain, stepsAt}
@@ -112,7 +112,7 @@ abbrev pub linesIn : Plan → List Line
 linesIn x = take (x .count) (x .lines)
 
 abbrev pub stepsIn : Plan → List Step
-stepsIn x = map (λ (l : Line). l .step) (linesIn x)
+stepsIn x = lineSteps (linesIn x)
 
 -- the plan has the steps and the site that are promised, each step with its benefit and cost in the profile that the steps
 -- before it leave

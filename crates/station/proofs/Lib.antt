@@ -1,6 +1,6 @@
--- The laws of the definitions in specs/, file by file under the same names; those that only returns of functions cite have Code in
--- their names. Stays is of ends that calls hand on, Made and Delivered of what is made at one end and comes to another, Room of
--- the store.
+-- The laws of specs/, under its names; Code: what returns of functions cite (Next and Taking of Receiving, Row and RowMessage of Making).
+-- Stays is of ends that calls hand on, Made and Delivered of what is made at one end and comes to another, Room of the store.
+-- Below lie the laws of ends, and semijoin by its promise alone; answerer, boundary and demands, above, cite these.
 pub mod OpeningCodeLaws
 pub mod MakingCodeLaws
 pub mod NextCodeLaws

@@ -1,5 +1,5 @@
--- What making a message says: where it is taken, its facts, and where these hold it is; where it is refused, by which number, and that
--- nothing changed.
+-- What making a message says: where it is taken, its facts, and where these hold it is; where it is refused, by which
+-- number. That nothing changed then is `leaves-refused` (ground).
 use mathlib.Core.Path.{_≡_, ap, sym, _∙_}
 use mathlib.Core.Bool.{Bool, true, _&&_}
 use mathlib.Core.List.{List, [], _∷_, List·Memᴰ, List·Memᴰ·tail, Memᴰ·append-left}

@@ -55,39 +55,39 @@ module _ (m by : List ℕ) (p : by ≡ drop 3 m) (missing : Missing) (b : Bool) 
 -- which step of its relation is missing says where a step stands: as many before it as are applied, fewer or more
 module _ (p : Program) (n : ℕ) (inside : n < stepCount p) (s : Step) (e : s ≡ stepOf p n) (done : ℕ) (missing : Missing)
     (i : missing ≡ missingOf p (s .left .relation) done (n + 1)) where
-  abbrev place : ℕ
-  place = stepsBefore p (s .left .relation) n
+  abbrev before : ℕ
+  before = stepsBefore p (s .left .relation) n
 
   own : stepOf p n .left .relation ≡ s .left .relation
   own = ap (λ (y : Step). y .left .relation) (sym e)
 
-  earlier : done < place → (k : ℕ) × (k < n) × (missing ≡ First k)
+  earlier : done < before → (k : ℕ) × (k < n) × (missing ≡ First k)
   earlier h = let (k, l, is) = next-earlier p (s .left .relation) n inside own done h in (k, l, i ∙ is)
 
-  none : place < done → missing ≡ None
+  none : before < done → missing ≡ None
   none h = i ∙ next-none p (s .left .relation) n inside own done h
 
-  is-next-same : isNext missing n ≡ eqb place done
+  is-next-same : isNext missing n ≡ eqb before done
   unfolding isNext
-  is-next-same = split done place (by-place (ℕ-discrete place done)) (λ h. rw (none h, ne-eqb place done (omega (arith, h))))
+  is-next-same = split done before (by-before (ℕ-discrete before done)) (λ h. rw (none h, ne-eqb before done (omega (arith, h))))
     where
-      by-place : Dec (place ≡ done) → done ≤ place → isNext missing n ≡ eqb place done
-      by-place (yes same) h =
-          rw (i, next-itself p (s .left .relation) n inside own done (sym same), eq-eqb place done same, eq-eqb n n refl)
-      by-place (no other) h =
+      by-before : Dec (before ≡ done) → done ≤ before → isNext missing n ≡ eqb before done
+      by-before (yes same) h =
+          rw (i, next-itself p (s .left .relation) n inside own done (sym same), eq-eqb before done same, eq-eqb n n refl)
+      by-before (no other) h =
           let (k, l, is) = earlier (omega (arith, h, other)) in
-          rw (is, ne-eqb k n (omega (arith, l)), ne-eqb place done other)
+          rw (is, ne-eqb k n (omega (arith, l)), ne-eqb before done other)
 
   module _ (b : Bool) (f : b ≡ isNext missing n) where
-    pub next-same : not b ≡ false → place ≡ done
-    next-same t = eqb-true place done (sym is-next-same ∙ sym f ∙ not-false b t)
+    pub next-same : not b ≡ false → before ≡ done
+    next-same t = eqb-true before done (sym is-next-same ∙ sym f ∙ not-false b t)
 
-    pub next-other : not b ≡ true → place ≡ done → ⊥
-    next-other t = eqb-false place done (sym is-next-same ∙ sym f ∙ not-true b t)
+    pub next-other : not b ≡ true → before ≡ done → ⊥
+    next-other t = eqb-false before done (sym is-next-same ∙ sym f ∙ not-true b t)
 
-  pub not-next-by : (place ≡ done → ⊥) → notNext missing ≡ pick (ltb place done) alreadyTaken stepMissing
+  pub not-next-by : (before ≡ done → ⊥) → notNext missing ≡ pick (ltb before done) alreadyTaken stepMissing
   unfolding notNext
   not-next-by other =
-      split done place
-      (λ h. let (k, l, is) = earlier (omega (arith, h, other)) in rw (is, le-ltb place done h))
-      (λ h. rw (none h, lt-ltb place done h))
+      split done before
+      (λ h. let (k, l, is) = earlier (omega (arith, h, other)) in rw (is, le-ltb before done h))
+      (λ h. rw (none h, lt-ltb before done h))

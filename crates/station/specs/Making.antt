@@ -1,6 +1,6 @@
 -- "Value message .. can be made when every earlier step reducing S has been applied." "Row message .. can be made when all
--- steps reducing that relation have been applied." "Making: 10, 11 (marks), 14, 12, 11 (message)." "Making,
--- answering and writing start at the front of the lent buffer, return the length written and leave the rest."
+-- steps reducing that relation have been applied." "Making: 10, 11 (marks), 14, 12, 11 (message)." What a call
+-- answers and leaves is said in fields, by Puts.
 use Prim.Native.Nat.{ℕ}
 use mathlib.Core.Bool.{Bool, _&&_, not}
 use mathlib.Core.List.{List, [], _∷_, map}
@@ -30,7 +30,7 @@ sendTests p applied ours r n =
     ∷ test (isMissing p r (getD applied r 0) n) waiting (firstMissing p r (getD applied r 0) n)
     ∷ []
 
--- the value message of a step, into so much room: then 11
+-- the value message of a step: 14, 12, then 11 where it does not fit into so much room
 unfoldable pub valuesWith : Papers → End → List ℕ → List ℕ → ℕ → ℕ → Outcome (List ℕ)
 valuesWith q x words marks n room =
     let b = stepOf (q .program) n .right in
@@ -45,7 +45,7 @@ makeValuesOf x words marks n room = next (usable x words (length marks)) (λ q _
 unfoldable pub sentRows : Envelope → List ℕ → List ℕ → ℕ → Table
 sentRows e words marks r = map (λ (row : Row). map (wordIn row) (keptColumns e r)) (keptRows e words marks r)
 
--- the row message of a relation
+-- the row message of a relation, likewise
 unfoldable pub rowsWith : Papers → End → List ℕ → List ℕ → ℕ → ℕ → Outcome (List ℕ)
 rowsWith q x words marks r room =
     judged

@@ -1,5 +1,5 @@
--- What the calls on tables give: each refusal where it is due, and the effect where none is. The floors above go by these and
--- unfold nothing.
+-- What the calls on tables give where tables, marks and column are right, and by which numbers they refuse. The floors above go by
+-- these and unfold nothing.
 use mathlib.Core.Path.{_≡_, refl, _∙_}
 use mathlib.Core.Bool.{true, false, not, _&&_}
 use mathlib.Core.List.{List, [], _∷_, _++_, List·Memᴰ}
@@ -44,14 +44,14 @@ module _ (e : Envelope) (a : Place) (words marks : List ℕ) (start : ℕ) (out 
   found = risingValues e words marks a
 
   abbrev valuesTests : List Test
-  valuesTests = test (not (isPlace e a)) notOurs 0 ∷ roomTest (risingValues e words marks a) start out ∷ []
+  valuesTests = test (not (isPlace e a)) notOurs 0 ∷ roomTest start (length out) (risingValues e words marks a) ∷ []
 
   -- it refuses by 10, 11, 14, at 0
   pub values-number : (n p : ℕ) → valuesOutcome e words marks a start out ≡ bad n p
       → List·Memᴰ n (wrongShape ∷ tooShort ∷ notOurs ∷ tooShort ∷ []) × (p ≡ 0)
   unfolding valuesOutcome
   values-number n p h =
-      refusal-listed (columnTests e a words (length marks) ++ roomTest found start out ∷ []) found 0 n p (refl, (refl, (refl, (refl, tt)))) h
+      refusal-listed (columnTests e a words (length marks) ++ roomTest start (length out) found ∷ []) found 0 n p (refl, (refl, (refl, (refl, tt)))) h
 
   module _ (s : shaped e words ≡ true) where
     module _ (h : rowCount e words ≤ length marks) where

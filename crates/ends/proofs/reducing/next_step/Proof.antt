@@ -5,10 +5,10 @@ use Rattle.ends.proofs.reducing.next_step.Tie as tie
 use Rattle.ends.proofs.reducing.next_step.Reads as reads
 use Rattle.ends.proofs.reducing.next_step.Lts as lts
 use Rattle.ends.proofs.reducing.sought_in.Reads as sought-in-reads
-use Rattle.ends.proofs.reducing.used_below.Reads as used-below-reads
+use Rattle.ends.proofs.reducing.in_use_below.Reads as in-use-below-reads
 
-used-below-requires : tie.Need-used-below-requires
-used-below-requires c κs = search needs
+in-use-below-requires : tie.Need-in-use-below-requires
+in-use-below-requires c κs = search needs
 
 sought-in-requires : tie.Need-sought-in-requires
 sought-in-requires c κs = search needs
@@ -17,4 +17,4 @@ returns : tie.Need-returns
 returns c = search (next-found, needs)
 
 pub next-step-spec : {M : Type 1} → statement M
-next-step-spec = tie.close (tie.spec used-below-requires sought-in-requires returns)
+next-step-spec = tie.close (tie.spec in-use-below-requires sought-in-requires returns)
