@@ -1,6 +1,7 @@
 -- The laws of an envelope's parts that are in use: a relation within the count, one past it, and the columns of each.
 use mathlib.Core.Path.{_≡_, ap, sym, _∙_}
 use Prim.Native.Nat.{ℕ, _≤_, _<_}
+use native.Mathlib.Omega.{arith}
 use lib.ListN.{getD}
 use Rattle.ground.proofs.UsedLaws.{used-inside, used-outside}
 use Rattle.entries.specs.Relations.{pastRelation, columnCount}
@@ -23,3 +24,8 @@ module _ (e : Envelope) (r : ℕ) where
   pub columns-outside : e .«relation_count» ≤ r → 0 ≡ columnsIn e r
   unfolding columnsIn
   columns-outside h = ap columnCount (sym (relation-outside h))
+
+-- a relation has no more columns than its array
+pub columns-few : (e : Envelope) (r : ℕ) → columnsIn e r ≤ 8
+unfolding columnsIn
+columns-few e r = omega arith

@@ -3,7 +3,7 @@
 -- a cost are excluded by the fields of DemandTwo and by Upper, which say each row and each number.
 use mathlib.Core.Path.{_≡_, refl, sym, ap, _∙_}
 use mathlib.Core.Bool.{true}
-use mathlib.Core.List.{List, [], _∷_}
+use mathlib.Core.List.{List, []}
 use Prim.Native.Nat.{ℕ}
 use native.Mathlib.Omega.{arith}
 use lib.ListN.{length, getD, replicate}
@@ -39,7 +39,8 @@ use Rattle.planner.proofs.Figures.{E1, fallen}
 use Rattle.tables.specs.Offsets.{countIn, firstWord, wordsBefore}
 use Rattle.tables.specs.Shape.{shaped}
 use Rattle.semijoin.specs.Run.{stepped}
-use Rattle.semijoin.proofs.Figures.{onNumber, onDate, couponWeigh}
+use Rattle.papers.proofs.ExamplePapers.{couponWeigh}
+use Rattle.semijoin.proofs.Figures.{onNumber, onDate, allKept}
 use Rattle.semijoin.proofs.Figures as reduced
 use Rattle.answerer.specs.Answer.{fitted, answerChecked, answerOutcome}
 
@@ -66,9 +67,6 @@ answers = ((_, 0, refl, refl), (_, 0, refl, refl))
 -- a legal step, and that of the marks that keep every row it removes the third
 abbrev onDates : Step
 onDates = step (place 0 1) (place 1 1)
-
-abbrev allKept : List ℕ
-allKept = 1 ∷ 1 ∷ 1 ∷ 1 ∷ 1 ∷ 1 ∷ 1 ∷ 9 ∷ []
 
 dates-legal : legal onDate onDates ≡ true
 unfolding padded samePlace domainOf relationsOf clausesOf columnsIn withVersion withSizes withRelations withClauses withTargets edges onPath isPlace legalBy

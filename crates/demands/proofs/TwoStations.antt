@@ -10,7 +10,6 @@ use lib.ListN.{replicate}
 use lib.Dec.{eqb}
 use borrow.Author.Tests.{eqb-true}
 use Rattle.ground.specs.Tests.{pick}
-use Rattle.ground.specs.Lists.{Every}
 use Rattle.ground.specs.Outcome.Outcome.{good}
 use Rattle.entries.specs.Places.{place, noPlace}
 use Rattle.entries.specs.Relations.{noColumn, noRelation}
@@ -22,7 +21,8 @@ use Rattle.paths.specs.Steps.{step}
 use Rattle.papers.specs.Programs.{programWith}
 use Rattle.papers.specs.Checks.{papersOf}
 use Rattle.papers.specs.declared.programs.Program.{Program}
-use Rattle.semijoin.proofs.Figures.{onNumber, couponWeigh}
+use Rattle.papers.proofs.ExamplePapers.{couponWeigh}
+use Rattle.semijoin.proofs.Figures.{onNumber}
 use Rattle.answerer.specs.Answer.{fitted as answerFits}
 use Rattle.demands.specs.Link.{Crew, Allowed, State, start, afterAll, lentStore, siteOpened, withMade, withTaken, after}
 use Rattle.demands.specs.Orderly.{inTurn, inOrder, Happens}
@@ -34,6 +34,7 @@ use Rattle.ground.specs.Lists.{padded, numbersFrom}
 use Rattle.ground.specs.Outcome.{numbered}
 use Rattle.ground.specs.Rising.{insert, rising}
 use Rattle.ground.specs.Searching.{firstFrom}
+use Rattle.ground.proofs.EveryLaws.{every-replicate}
 use Rattle.fields.specs.Numbers.{numberAt, numberThat, marked, markAt, versionAt, headOf}
 use Rattle.entries.specs.Clauses.{domainOf, selectionAt, joined, joinAt, clauseAt, kindBytes}
 use Rattle.entries.specs.Places.{samePlace, placeAt, placeBytes}
@@ -106,9 +107,7 @@ computed = (refl, refl, refl, refl)
 
 -- ---- the crew is one that demand 3 speaks of
 
-every-same : {A : Type 0} (P : A → Type 0) (z : A) → P z → (n : ℕ) → Every P (replicate n z)
-every-same P z h zero = tt
-every-same P z h (suc n) = (h, every-same P z h n)
+
 
 small : (a : Place) → a .relation < 256 → a .column < 256 → PlaceFits a
 small a h k = record { relation = h; column = k }
@@ -121,7 +120,7 @@ none-column = record { domain = omega arith; width = omega arith; distinct = ome
 
 none-relation : RelationFits noRelation
 none-relation =
-    record { site = omega arith; count = omega arith; rows = omega arith; columns = every-same ColumnFits noColumn none-column 8; long = refl }
+    record { site = omega arith; count = omega arith; rows = omega arith; columns = every-replicate ColumnFits 8 noColumn none-column; long = refl }
 
 fits : Fits onNumber
 unfolding padded withVersion withSizes withRelations withClauses withTargets
@@ -131,7 +130,7 @@ fits =
     record {
       version = omega arith;
       domains = omega arith;
-      sizes = (w, (w, (w, every-same (λ (n : ℕ). n < 2 ^ 32) 0 (omega arith) 13)));
+      sizes = (w, (w, (w, every-replicate (λ (n : ℕ). n < 2 ^ 32) 13 0 (omega arith))));
       long-sizes = refl;
       relations = omega arith;
       each = (
@@ -139,7 +138,7 @@ fits =
           site = omega arith;
           count = omega arith;
           rows = omega arith;
-          columns = (narrow 0 3 (omega arith) (omega arith), (narrow 1 2 (omega arith) (omega arith), every-same ColumnFits noColumn none-column 6));
+          columns = (narrow 0 3 (omega arith) (omega arith), (narrow 1 2 (omega arith) (omega arith), every-replicate ColumnFits 6 noColumn none-column));
           long = refl;
         },
         (
@@ -149,19 +148,19 @@ fits =
             rows = omega arith;
             columns = (
               narrow 0 3 (omega arith) (omega arith),
-              (narrow 1 2 (omega arith) (omega arith), (narrow 2 3 (omega arith) (omega arith), every-same ColumnFits noColumn none-column 5)),
+              (narrow 1 2 (omega arith) (omega arith), (narrow 2 3 (omega arith) (omega arith), every-replicate ColumnFits 5 noColumn none-column)),
             );
             long = refl;
           },
-          every-same RelationFits noRelation none-relation 6,
+          every-replicate RelationFits 6 noRelation none-relation,
         ),
       );
       long-relations = refl;
       clauses = omega arith;
-      rules = ((c, small (place 1 0) (omega arith) (omega arith)), every-same ClauseFits noClause (small noPlace (omega arith) (omega arith), omega arith) 11);
+      rules = ((c, small (place 1 0) (omega arith) (omega arith)), every-replicate ClauseFits 11 noClause (small noPlace (omega arith) (omega arith), omega arith));
       long-clauses = refl;
       targets = omega arith;
-      named = (c, (small (place 1 2) (omega arith) (omega arith), every-same PlaceFits noPlace (small noPlace (omega arith) (omega arith)) 14));
+      named = (c, (small (place 1 2) (omega arith) (omega arith), every-replicate PlaceFits 14 noPlace (small noPlace (omega arith) (omega arith))));
       long-targets = refl;
     }
 

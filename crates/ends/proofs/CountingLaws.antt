@@ -2,13 +2,13 @@
 use mathlib.Core.Path.{_≡_, refl, ap, sym, _∙_}
 use mathlib.Core.Bool.{Bool, true, false}
 use mathlib.Core.List.{List, [], _∷_, _++_, append-nil}
-use Prim.Native.Nat.{ℕ, suc, _+_, _-_, _≤_, _<_}
+use Prim.Native.Nat.{ℕ, _+_, _-_, _≤_, _<_}
 use native.Mathlib.Omega.{arith}
 use lib.ListN.{length, getD, length-append}
 use lib.Seq.{getD-at}
 use Rattle.ground.specs.Lists.{filter, below, numbersFrom}
 use Rattle.ground.proofs.ListLaws.{filter-append, filter-length}
-use Rattle.ground.proofs.NumbersLaws.{below-length, filter-below, numbers-append}
+use Rattle.ground.proofs.NumbersLaws.{below-length, filter-below, numbers-append, below-split}
 
 -- up to a later number it holds at no fewer
 pub counted-more : (f : ℕ → Bool) (n k : ℕ) → n ≤ k → length (filter f (below n)) ≤ length (filter f (below k))
@@ -46,14 +46,10 @@ module _ (f : ℕ → Bool) (n : ℕ) where
 
       -- the test holds at i: so i stands behind those that are counted
       stands : f i ≡ true → filter f (below n) ≡ filter f (below i) ++ (i ∷ filter f (numbersFrom (i + 1) (n - (i + 1))))
-      unfolding numbersFrom
       stands t =
-          let s : n ≡ i + suc (n - (i + 1)) = omega arith in
-          let z : 0 + i ≡ i = omega arith in
-          ap (λ k. filter f (below k)) s
-          ∙ ap (filter f) (numbers-append 0 i (suc (n - (i + 1))))
-          ∙ filter-append f (below i) (numbersFrom (0 + i) (suc (n - (i + 1))))
-          ∙ rw (z, t)
+          ap (filter f) (below-split n i h)
+          ∙ filter-append f (below i) (i ∷ numbersFrom (i + 1) (n - (i + 1)))
+          ∙ rw t
 
       pub counting-found : f i ≡ true → getD (filter f (below n)) count 0 ≡ i
       counting-found t =

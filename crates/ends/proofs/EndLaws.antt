@@ -151,9 +151,6 @@ step-legal q g n h =
     legal-step (q .envelope) (getD (stepsOf (q .program)) n noStep)
     (every-getD (λ (s : Step). legal (q .envelope) s ≡ true) (stepsOf (q .program)) n noStep h (g .acceptable .steps))
 
-pub applied-none : (applied : List ℕ) (r : ℕ) → length applied ≤ r → 0 ≡ getD applied r 0
-applied-none applied r h = sym (List·getD-eq-default applied 0 h)
-
 -- a relation that is here is one of the envelope's
 pub here-below : (e : Envelope) (site r : ℕ) → isAt e site r ≡ true → r < relationCount e
 unfolding isAt

@@ -1,15 +1,15 @@
 -- The laws of the search for a relation's next step: one for each return of the turn, what a turn takes off, and what a search finds.
 use mathlib.Core.Path.{_≡_, refl, sym, _∙_, ap, subst}
 use Prim.Native.Nat.{ℕ, suc, _+_, _-_, _≤_, _<_, min}
+use native.Mathlib.Numerals.{add-one}
 use native.Mathlib.Omega.{arith}
 use mathlib.Core.List.{List, [], _∷_, head-eq-of-cons-eq, tail-eq-of-cons-eq}
-use mathlib.Core.Bool.{Bool, true, false}
+use mathlib.Core.Bool.{Bool, true, false, false≢true}
 use lib.Dec.{eqb, leb}
 use lib.ListN.{length, getD, take, drop, length-drop, drop-of-length-le}
 use lib.Seq.{drop-cons, getD-take}
 use borrow.Author.Tests.{eq-eqb, ne-eqb, eqb-true, eqb-false, le-leb, lt-leb, leb-true, leb-false, lt-ltb, le-ltb}
 use Rattle.ground.specs.Lists.{filter, below}
-use Rattle.ground.proofs.OutcomeLaws.{never}
 use Rattle.ground.proofs.ListLaws.{filter-length}
 use Rattle.ground.proofs.NumbersLaws.{below-length}
 use Rattle.papers.specs.Programs.{noStep, stepsOf}
@@ -50,9 +50,6 @@ module _ (c : Search) (s : Step) (at : ℕ) where
 
 -- ---- the steps that are left
 
-one-more : (i : ℕ) → i + 1 ≡ suc i
-one-more i = omega arith
-
 module _ (steps : List Step) where
   -- one step is taken off what is left
   pub sought-turn : (i : ℕ) (c : Search) → i < length steps
@@ -60,7 +57,7 @@ module _ (steps : List Step) where
   unfolding soughtFrom
   sought-turn i c l =
       ap (λ (zs : List Step). soughtFrom zs i c) (drop-cons steps i noStep l)
-      ∙ ap (λ (k : ℕ). soughtFrom (drop k steps) (i + 1) (seenOf c (getD steps i noStep) i)) (sym (one-more i))
+      ∙ ap (λ (k : ℕ). soughtFrom (drop k steps) (i + 1) (seenOf c (getD steps i noStep) i)) (sym (add-one i))
 
   -- nothing is left
   pub sought-end : (i : ℕ) (c : Search) → i ≡ length steps → soughtFrom (drop i steps) i c ≡ c
@@ -77,9 +74,6 @@ sought-past : (zs : List Step) (i : ℕ) (c : Search) → c .found ≡ false →
 unfolding soughtFrom
 sought-past [] i c e h = refl
 sought-past (s ∷ ss) i c e h = ap (soughtFrom ss (i + 1)) (sym (seen-end c s i e h)) ∙ sought-past ss (i + 1) c e (omega (arith, h))
-
-not-both : true ≡ false → ⊥
-not-both z = let n : _≡_ {A = ℕ} 0 1 = cc in never n
 
 -- ---- what a search finds among the numbers at which a test holds
 
@@ -105,7 +99,7 @@ module _ (steps : List Step) (count r skip end : ℕ) (within : end ≤ count) (
 
   stopped : (i passed : ℕ) (c : Search) → Open i passed c → end ≤ i → Says f end skip c
   stopped i passed c o h =
-      (λ e. absurd (not-both (sym e ∙ o .still)), λ _. omega (arith, counting-done _ _ _ _ (o .counted) h, o .rest))
+      (λ e. absurd (false≢true (sym (o .still) ∙ e)), λ _. omega (arith, counting-done _ _ _ _ (o .counted) h, o .rest))
 
   is-left : (i : ℕ) → i < end → f i ≡ eqb (getD steps i noStep .left .relation) r
   unfolding reduces
@@ -125,7 +119,7 @@ module _ (steps : List Step) (count r skip end : ℕ) (within : end ≤ count) (
       let less : skip < length (filter f (below end)) = rw at-skip at (counting-less _ _ _ _ (o .counted) h is) in
       let there : getD (filter f (below end)) skip 0 ≡ i = rw at-skip at (counting-found _ _ _ _ (o .counted) h is) in
       subst (λ (d : Search). Says f end skip (soughtFrom ss (i + 1) d)) same
-      (subst (λ (d : Search). Says f end skip d) (sym (sought-done ss (i + 1) one refl)) ((λ _. (less, there)), λ e. absurd (not-both e)))
+      (subst (λ (d : Search). Says f end skip d) (sym (sought-done ss (i + 1) one refl)) ((λ _. (less, there)), λ e. absurd (false≢true (sym e))))
   turned s ss i passed c o h g ih true false ea eb =
       let is : f i ≡ true = is-left i h ∙ rw (g, ← (o .of-r)) ea in
       let some-left : c .skip ≡ 0 → ⊥ = eqb-false _ _ eb in
@@ -154,7 +148,7 @@ module _ (steps : List Step) (count r skip end : ℕ) (within : end ≤ count) (
       let inside : i < length steps = omega (arith, some) in
       let apart : getD steps i noStep ∷ drop (suc i) steps ≡ s ∷ ss = sym (drop-cons steps i noStep inside) ∙ e in
       by-end s ss i passed c o (head-eq-of-cons-eq apart)
-      (λ passed′ d od. says ss (i + 1) passed′ d (ap (λ (j : ℕ). drop j steps) (one-more i) ∙ tail-eq-of-cons-eq apart) od) (leb end i) refl
+      (λ passed′ d od. says ss (i + 1) passed′ d (ap (λ (j : ℕ). drop j steps) (add-one i) ∙ tail-eq-of-cons-eq apart) od) (leb end i) refl
 
 -- ---- what the functions answer
 

@@ -2,7 +2,7 @@
 use mathlib.Core.Path.{_≡_, ap, sym, _∙_}
 use Prim.Native.Nat.{ℕ, _+_, _≤_, _<_, min}
 use mathlib.Core.List.{List}
-use lib.ListN.{length, getD, set, replicate, List·getD-eq-default}
+use lib.ListN.{getD, set, replicate}
 use Rattle.ground.specs.Outcome.{Outcome, next, verdictOf, nextOf, leaves}
 use Rattle.ground.specs.Outcome.Outcome.{good, bad}
 use Rattle.ground.specs.declared.Verdict.the-variants.{Taken, Refused}
@@ -38,12 +38,6 @@ relation-refused o x m q e g = refused-is o m q (sym (ap (λ (c : RelationRead).
 pub relation-none : (m q : ℕ) (z : Relation) → z ≡ noRelation → record { verdict = Refused m q; next = 0; relation = z } ≡ shownRelation (bad m q)
 unfolding verdictOf nextOf leaves
 relation-none m q z e = ap (λ (x : Relation). record { verdict = Refused m q; next = 0; relation = x }) e
-
-pub past-size : (sizes : List ℕ) (i : ℕ) → length sizes ≤ i → 0 ≡ getD sizes i 0
-past-size sizes i h = sym (List·getD-eq-default sizes 0 h)
-
-pub past-column : (columns : List Column) (i : ℕ) (c : Column) → length columns ≤ i → c ≡ noColumn → c ≡ getD columns i noColumn
-past-column columns i c h e = e ∙ sym (List·getD-eq-default columns noColumn h)
 
 -- ---- a column
 

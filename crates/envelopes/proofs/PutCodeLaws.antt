@@ -9,6 +9,7 @@ use lib.ListN.{length, take, length-append}
 use lib.Seq.{sets}
 use Rattle.ground.specs.Lists.{each, Every}
 use Rattle.ground.specs.Bytes.{bytesOf}
+use Rattle.ground.proofs.EveryLaws.{every-of}
 use Rattle.fields.specs.Puts.{Puts, Fronts}
 use Rattle.fields.proofs.PutLaws.{then-put}
 use Rattle.entries.specs.Places.{placeBytes}
@@ -136,10 +137,6 @@ module _ (e : Envelope) where
 
 -- ---- how long an envelope is at most
 
-every-one : {A : Type 0} (l : List A) → Every (λ (x : A). Unit {0}) l
-every-one [] = tt
-every-one (x ∷ l) = (tt, every-one l)
-
 module _ {A : Type 0} (P : A → Type 0) (put : A → List ℕ) (most : ℕ) (h : (x : A) → P x → length (put x) ≤ most) where
   each-most : (n : ℕ) (l : List A) → Every P l → length (each put (take n l)) ≤ most * length l
   each-most zero l e = zero-le
@@ -151,7 +148,7 @@ module _ {A : Type 0} (P : A → Type 0) (put : A → List ℕ) (most : ℕ) (h 
 
 all-most : {A : Type 0} (put : A → List ℕ) (most : ℕ) → ((x : A) → length (put x) ≤ most) → (n : ℕ) (l : List A)
     → length (each put (take n l)) ≤ most * length l
-all-most put most h n l = each-most (λ _. Unit {0}) put most (λ x _. h x) n l (every-one l)
+all-most put most h n l = each-most (λ _. Unit {0}) put most (λ x _. h x) n l (every-of _ l (λ _ _. tt))
 
 place-most : (x : Place) → length (placeBytes x) ≤ 2
 unfolding placeBytes bytesOf

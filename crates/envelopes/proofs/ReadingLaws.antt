@@ -3,7 +3,7 @@
 use mathlib.Core.Path.{_≡_, refl, ap, sym, _∙_}
 use Prim.Native.Nat.{ℕ, _≤_, _<_}
 use native.Mathlib.Omega.{arith}
-use mathlib.Core.List.{List, []}
+use mathlib.Core.List.{List}
 use mathlib.Core.Bool.{Bool, true, false}
 use lib.ListN.{length}
 use borrow.Author.Tests.{lt-ltb, le-ltb}
@@ -23,7 +23,7 @@ use Rattle.fields.proofs.NumberLaws.{number-good, number-bad, in-good}
 use Rattle.fields.proofs.PutLaws.{Writes, written-refused, written-front}
 use Rattle.contents.specs.Parts.{noEnvelope, withVersion, withSizes}
 use Rattle.contents.specs.Kept.{shownBare}
-use Rattle.envelopes.specs.Envelope.{CPN, sizeAt, filled, listInto, sizesInto, relationsInto, clausesInto, targetsInto, bareOutcome, ended, targetsThen, clausesThen, relationsThen, sizesThen, envelopeFrom, readEnvelope, envelopeBytes, checkEnvelope, writeEnvelopeOf, envelopeWritten, envelopeWrittenIn, shownPart, shownEnvelope}
+use Rattle.envelopes.specs.Envelope.{CPN, sizeAt, filled, listInto, sizesInto, bareOutcome, ended, sizesThen, envelopeFrom, readEnvelope, envelopeBytes, checkEnvelope, writeEnvelopeOf, envelopeWritten, envelopeWrittenIn, shownPart, shownEnvelope}
 use Rattle.contents.specs.declared.kept.Bare.{Bare}
 use Rattle.contents.specs.declared.kept.Bare.the-variants.{Lowest, None}
 use Rattle.contents.specs.declared.envelope.Envelope.{Envelope}
@@ -63,51 +63,14 @@ module _ (s : List ℕ) (at : ℕ) (e : Envelope) where
     end-taken k =
         ap (λ (c : Bare). shownEnvelope (bareOutcome c e at)) (sym k ∙ g) ∙ simp (le-ltb _ _ h)
 
--- ---- the parts, each with what follows
+-- ---- a part with what follows, whichever it is
 
 module _ (o : Outcome Envelope) (k : Envelope → ℕ → Outcome Envelope) (c : EnvelopePart) (g : c ≡ shownPart o) (x : EnvelopeRead) where
-  then-bad : (m q : ℕ) → c .verdict ≡ Refused m q → x ≡ shownEnvelope (bad m q) → x ≡ shownEnvelope (next o k)
+  pub then-bad : (m q : ℕ) → c .verdict ≡ Refused m q → x ≡ shownEnvelope (bad m q) → x ≡ shownEnvelope (next o k)
   then-bad m q v y = y ∙ simp (part-refused o c m q g v)
 
-  then-good : c .verdict ≡ Taken → x ≡ shownEnvelope (k (c .envelope) (c .next)) → x ≡ shownEnvelope (next o k)
+  pub then-good : c .verdict ≡ Taken → x ≡ shownEnvelope (k (c .envelope) (c .next)) → x ≡ shownEnvelope (next o k)
   then-good v y = y ∙ simp (part-taken o c g v)
-
-module _ (s : List ℕ) (at : ℕ) (e : Envelope) (c : EnvelopePart) (x : EnvelopeRead) where
-  module _ (g : c ≡ shownPart (targetsInto s at e)) where
-    pub targets-bad : (m q : ℕ) → c .verdict ≡ Refused m q → x ≡ shownEnvelope (bad m q) → x ≡ shownEnvelope (targetsThen s at e)
-    unfolding targetsThen
-    targets-bad = then-bad (targetsInto s at e) (λ e p. ended s p e) c g x
-
-    pub targets-good : c .verdict ≡ Taken → x ≡ shownEnvelope (ended s (c .next) (c .envelope)) → x ≡ shownEnvelope (targetsThen s at e)
-    unfolding targetsThen
-    targets-good = then-good (targetsInto s at e) (λ e p. ended s p e) c g x
-
-  module _ (g : c ≡ shownPart (clausesInto s at e)) where
-    pub clauses-bad : (m q : ℕ) → c .verdict ≡ Refused m q → x ≡ shownEnvelope (bad m q) → x ≡ shownEnvelope (clausesThen s at e)
-    unfolding clausesThen
-    clauses-bad = then-bad (clausesInto s at e) (λ e p. targetsThen s p e) c g x
-
-    pub clauses-good : c .verdict ≡ Taken → x ≡ shownEnvelope (targetsThen s (c .next) (c .envelope)) → x ≡ shownEnvelope (clausesThen s at e)
-    unfolding clausesThen
-    clauses-good = then-good (clausesInto s at e) (λ e p. targetsThen s p e) c g x
-
-  module _ (g : c ≡ shownPart (relationsInto s at e)) where
-    pub relations-bad : (m q : ℕ) → c .verdict ≡ Refused m q → x ≡ shownEnvelope (bad m q) → x ≡ shownEnvelope (relationsThen s at e)
-    unfolding relationsThen
-    relations-bad = then-bad (relationsInto s at e) (λ e p. clausesThen s p e) c g x
-
-    pub relations-good : c .verdict ≡ Taken → x ≡ shownEnvelope (clausesThen s (c .next) (c .envelope)) → x ≡ shownEnvelope (relationsThen s at e)
-    unfolding relationsThen
-    relations-good = then-good (relationsInto s at e) (λ e p. clausesThen s p e) c g x
-
-  module _ (g : c ≡ shownPart (sizesInto s at e)) where
-    pub sizes-bad : (m q : ℕ) → c .verdict ≡ Refused m q → x ≡ shownEnvelope (bad m q) → x ≡ shownEnvelope (sizesThen s at e)
-    unfolding sizesThen
-    sizes-bad = then-bad (sizesInto s at e) (λ e p. relationsThen s p e) c g x
-
-    pub sizes-good : c .verdict ≡ Taken → x ≡ shownEnvelope (relationsThen s (c .next) (c .envelope)) → x ≡ shownEnvelope (sizesThen s at e)
-    unfolding sizesThen
-    sizes-good = then-good (sizesInto s at e) (λ e p. relationsThen s p e) c g x
 
 -- the count of domains that were read is in its limits
 few-domains : (s : List ℕ) (at : ℕ) (e f : Envelope) (p : ℕ) → sizesInto s at e ≡ good f p → f .«domain_count» ≤ 16

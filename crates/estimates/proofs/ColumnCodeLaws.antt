@@ -4,21 +4,20 @@ use mathlib.Core.List.{List}
 use Prim.Native.Nat.{ℕ, _+_, _*_, _≤_, _<_, min}
 use native.Mathlib.Omega.{arith}
 use lib.ListN.{length, getD, List·getD-eq-default}
-use Rattle.ground.specs.Lists.{below, sum, padded}
+use Rattle.ground.specs.Lists.{sum, padded}
 use Rattle.ground.proofs.CountLaws.{split}
-use Rattle.ground.proofs.ListLaws.{filter-length}
-use Rattle.ground.proofs.NumbersLaws.{below-length}
 use Rattle.ground.proofs.CollectingLaws.{padded-inside}
 use Rattle.ground.proofs.UsedLaws.{used-inside, used-outside}
 use Rattle.entries.specs.Relations.{noColumn, pastRelation}
 use Rattle.entries.specs.Places.{place}
-use Rattle.contents.specs.Parts.{sizesOf, columnsIn}
-use Rattle.contents.specs.Kept.{kept, keptColumns, shownColumns}
+use Rattle.contents.specs.Parts.{sizesOf}
+use Rattle.contents.specs.Kept.{keptColumns, shownColumns}
 use Rattle.entries.specs.declared.places.Place.{Place}
 use Rattle.entries.specs.declared.relations.Column.{Column}
 use Rattle.entries.specs.declared.relations.Relation.{Relation}
 use Rattle.contents.specs.declared.envelope.Envelope.{Envelope}
 use Rattle.contents.specs.declared.kept.Columns.{Columns}
+use Rattle.contents.proofs.KeptLaws.{kept-most}
 use Rattle.contents.proofs.PartLaws.{relation-inside, relation-outside}
 use Rattle.estimates.specs.Columns.{columnOf, domainSize, widthOf}
 use Rattle.estimates.proofs.TableCodeLaws.{Summing, summing-start, summing-more, summing-done}
@@ -61,15 +60,11 @@ pub record Widening (e : Envelope) (r : ℕ) (numbers : List ℕ) (end i total :
   pub array : numbers ≡ padded 8 0 (keptColumns e r)
   pub sum : Summing 255 (widthIn e r) (keptColumns e r) i total
 
-kept-few : (e : Envelope) (r : ℕ) → length (keptColumns e r) ≤ 8
-unfolding keptColumns columnsIn
-kept-few e r = let h = filter-length (λ c. kept e (place r c)) (below (columnsIn e r)) in omega (arith, h, below-length (columnsIn e r))
-
 module _ (e : Envelope) (r : ℕ) where
   pub widening-start : (k : Columns) → k ≡ shownColumns (keptColumns e r) → Widening e r (k .numbers) (k .count) 0 0
   widening-start k g =
       record {
-        few = rw g (kept-few e r);
+        few = rw g (kept-most e r);
         small = omega arith;
         counted = rw g;
         array = rw g;

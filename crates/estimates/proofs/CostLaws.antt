@@ -20,10 +20,10 @@ use Rattle.contents.specs.Sites.{siteOf}
 use Rattle.contents.specs.Kept.{kept, keptColumns}
 use Rattle.envelopes.specs.Rules.{Within}
 use Rattle.contents.specs.declared.envelope.Envelope.{Envelope}
-use Rattle.contents.proofs.PartLaws.{columns-outside}
+use Rattle.contents.proofs.PartLaws.{columns-outside, columns-few}
 use Rattle.paths.specs.Steps.{isPlace, legal, LegalStep}
 use Rattle.paths.specs.declared.steps.Step.{Step}
-use Rattle.paths.proofs.LabelLaws.{in-place, columns-few}
+use Rattle.paths.proofs.LabelLaws.{in-place}
 use Rattle.paths.proofs.StepLaws.{legal-step}
 use Rattle.estimates.specs.Columns.{columnOf, widthOf}
 use Rattle.estimates.specs.Profile.{given, widthAt, estimatedRows}

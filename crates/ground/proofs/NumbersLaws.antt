@@ -3,13 +3,13 @@ use mathlib.Core.Path.{_≡_, refl, sym, ap, _∙_}
 use mathlib.Core.Bool.{Bool}
 use mathlib.Core.List.{List, [], _∷_, _++_, map, append-nil, map-append, List·Memᴰ, List·Memᴰ·head, List·Memᴰ·tail, List·Memᴰ·cases-cons}
 use mathlib.Core.Logic.{_⊎_, inl, inr}
-use Prim.Native.Nat.{ℕ, zero, suc, _+_, _≤_, _<_, zero-le}
-use native.Mathlib.Nat.{le-of-suc-le-suc, not-suc-le-zero, add-zero}
+use Prim.Native.Nat.{ℕ, zero, suc, _+_, _-_, _≤_, _<_, zero-le}
+use native.Mathlib.Nat.{le-of-suc-le-suc, not-suc-le-zero, add-zero, zero-add}
 use native.Mathlib.Numerals.{add-one}
 use native.Mathlib.Omega.{arith}
 use lib.ListN.{length, getD}
 use Rattle.ground.specs.Lists.{numbersFrom, below, each, filter}
-use Rattle.ground.proofs.CountLaws.{split}
+use Rattle.ground.proofs.CountLaws.{split, left-suc}
 use Rattle.ground.proofs.ListLaws.{each-append, filter-append}
 
 pub numbers-length : (i n : ℕ) → length (numbersFrom i n) ≡ n
@@ -63,6 +63,13 @@ below-getD n k d h = let s : 0 + k ≡ k = omega arith in numbers-getD 0 n k d h
 
 pub below-suc : (n : ℕ) → below (suc n) ≡ below n ++ (n ∷ [])
 below-suc n = let s : 0 + n ≡ n = omega arith in numbers-suc 0 n ∙ rw s
+
+-- cut at one of them
+pub below-split : (n r : ℕ) → r < n → below n ≡ below r ++ (r ∷ numbersFrom (r + 1) (n - (r + 1)))
+unfolding numbersFrom
+below-split n r h =
+    let whole : r + (n - r) ≡ n = omega arith in
+    ap below (sym whole) ∙ numbers-append 0 r (n - r) ∙ rw (zero-add r, left-suc n r h)
 
 -- one more, as a loop comes to it
 pub below-more : (n : ℕ) → below (n + 1) ≡ below n ++ (n ∷ [])

@@ -14,6 +14,7 @@ use Rattle.ground.specs.declared.Verdict.{Verdict}
 use Rattle.ground.specs.declared.Verdict.the-variants.{Taken, Refused}
 use Rattle.ground.proofs.ListLaws.{map-mem}
 use Rattle.ground.proofs.OutcomeLaws.{never, good-bad}
+use Rattle.ground.proofs.TestLaws.{or-none}
 
 -- some test fails
 abbrev pub someFail : List Test → Bool
@@ -89,16 +90,6 @@ module _ {A : Type 0} where
           inl (rw (← m, f .whole) (map-mem (λ (u : Test). u .number) (Memᴰ·append-right (f .before) (List·Memᴰ·head refl))))
       go (inr (none, k)) = inr k
 
--- where no test fails, each passes
-pub each-passes : (ts : List Test) → someFail ts ≡ false → Every (λ (t : Test). t .fails ≡ false) ts
-each-passes [] h = tt
-each-passes (t ∷ ts) h = go (t .fails) refl h (each-passes ts)
-  where
-    go : (b : Bool) → t .fails ≡ b → (b || someFail ts) ≡ false → (someFail ts ≡ false → Every (λ (t : Test). t .fails ≡ false) ts)
-        → Every (λ (t : Test). t .fails ≡ false) (t ∷ ts)
-    go true e k rest = absurd (false≢true (sym k))
-    go false e k rest = (e, rest k)
-
 -- ---- tests judged alone
 
 refused-by : {A : Type 0} (o : Outcome A) (ts : List Test) (m q : ℕ) → Refused m q ≡ judgement ts → judged ts o ≡ bad m q
@@ -132,20 +123,10 @@ module _ (ts : List Test) (v : Verdict) (g : v ≡ judgement ts) where
   pub judge-taken : {A : Type 0} (o : Outcome A) → v ≡ Taken → judged ts o ≡ o
   judge-taken o h = judged-none ts o (judge-passed h)
 
--- where the effect is good and every test has position 0, a refusal has the number of a test, and position 0
-pub refusal-listed : {A : Type 0} (ts : List Test) (v : A) (p n q : ℕ) → Every (λ (t : Test). t .position ≡ 0) ts
-    → judged ts (good v p) ≡ bad n q → List·Memᴰ n (map (λ (t : Test). t .number) ts) × (q ≡ 0)
-refusal-listed [] v p n q z h = absurd (good-bad v p n q h)
-refusal-listed {A} (t ∷ ts) v p n q z h = go (t .fails) h (refusal-listed ts v p n q (z .1))
-  where
-    go : (b : Bool) → pick b (bad (t .number) (t .position)) (judged ts (good v p)) ≡ bad n q
-        → (judged ts (good v p) ≡ bad n q → List·Memᴰ n (map (λ (t : Test). t .number) ts) × (q ≡ 0))
-        → List·Memᴰ n (t .number ∷ map (λ (t : Test). t .number) ts) × (q ≡ 0)
-    go true h ih =
-        let same : n ≡ t .number = cc in
-        let place : q ≡ t .position = cc in
-        (List·Memᴰ·head same, place ∙ z .0)
-    go false h ih = let (m, e) = ih h in (List·Memᴰ·tail m, e)
+-- where no test fails, each passes
+pub each-passes : (ts : List Test) → someFail ts ≡ false → Every (λ (t : Test). t .fails ≡ false) ts
+each-passes [] h = tt
+each-passes (t ∷ ts) h = let (first, rest) = or-none (t .fails) (someFail ts) h in (first, each-passes ts rest)
 
 -- where every test has position 0, a refusal has the number of a test and position 0, or is that of what comes after
 pub refusal-or : {A : Type 0} (ts : List Test) (o : Outcome A) (n q : ℕ) → Every (λ (t : Test). t .position ≡ 0) ts → judged ts o ≡ bad n q
@@ -166,6 +147,15 @@ refusal-or {A} (t ∷ ts) o n q z h = go (t .fails) h (refusal-or ts o n q (z .1
         let place : q ≡ t .position = cc in
         inl (List·Memᴰ·head same, place ∙ z .0)
     go false h ih = later (ih h)
+
+-- so where the effect is good it has the number of a test
+pub refusal-listed : {A : Type 0} (ts : List Test) (v : A) (p n q : ℕ) → Every (λ (t : Test). t .position ≡ 0) ts
+    → judged ts (good v p) ≡ bad n q → List·Memᴰ n (map (λ (t : Test). t .number) ts) × (q ≡ 0)
+refusal-listed ts v p n q z h = go (refusal-or ts (good v p) n q z h)
+  where
+    go : (List·Memᴰ n (map (λ (t : Test). t .number) ts) × (q ≡ 0)) ⊎ (good v p ≡ bad n q) → List·Memᴰ n (map (λ (t : Test). t .number) ts) × (q ≡ 0)
+    go (inl told) = told
+    go (inr e) = absurd (good-bad v p n q e)
 
 -- one test after the other
 pub judge-fail : (t : Test) (ts : List Test) → t .fails ≡ true → Refused (t .number) (t .position) ≡ judgement (t ∷ ts)

@@ -25,6 +25,10 @@ pub or-right : (a : Bool) {b : Bool} → b ≡ true → (a || b) ≡ true
 or-right true t = refl
 or-right false t = t
 
+pub or-none : (a b : Bool) → (a || b) ≡ false → (a ≡ false) × (b ≡ false)
+or-none true b t = absurd (false≢true (sym t))
+or-none false b t = (refl, t)
+
 -- two tests that imply one another are equal
 pub same-test : (a b : Bool) → (a ≡ true → b ≡ true) → (b ≡ true → a ≡ true) → a ≡ b
 same-test true b f g = sym (f refl)

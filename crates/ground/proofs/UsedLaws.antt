@@ -11,7 +11,11 @@ use Rattle.ground.specs.Lists.{any}
 use Rattle.ground.proofs.CountLaws.{split}
 use Rattle.ground.proofs.SearchingLaws.{someFrom, Looking, some-more, some-found, some-none, any-some}
 
--- an element behind those in use reads as the default
+-- an element behind the list reads as the default
+pub element-past : {A : Type 0} (l : List A) (i : ℕ) (d x : A) → length l ≤ i → x ≡ d → x ≡ getD l i d
+element-past l i d x h e = e ∙ sym (List·getD-eq-default l d h)
+
+-- and so one behind those in use
 pub used-outside : {A : Type 0} (l : List A) (n i : ℕ) (d : A) → n ≤ i → getD (take n l) i d ≡ d
 used-outside l n i d h = List·getD-eq-default (take n l) d (omega (arith, length-take n l))
 

@@ -258,3 +258,15 @@ structs =
     ∷ seen (checkProgram smallAsked (programWith 1 (step (place 0 0) (place 1 0) ∷ step (place 0 1) (place 1 0) ∷ []))) gives refused 8 1
     ∷ seen (checkProgram smallAsked (programWith 1 (step (place 0 2) (place 1 0) ∷ []))) gives refused 4 8
     ∷ []
+
+-- ---- same day: COUPON (number, date), WEIGH (number, date, loss), and their rows
+
+abbrev pub days : List Clause → List Place → Envelope
+days =
+    asks (100 ∷ 100 ∷ 100 ∷ [])
+    (relationWith 0 2 3 (columnWith 0 1 3 ∷ columnWith 1 1 2 ∷ []) ∷ relationWith 1 3 4 (columnWith 0 1 3 ∷ columnWith 1 1 2 ∷ columnWith 2 1 3 ∷ []) ∷ [])
+
+abbrev pub couponWeigh : List ℕ
+couponWeigh =
+    3 ∷ 4 ∷ 11 ∷ 20 ∷ 12 ∷ 20 ∷ 13 ∷ 21
+    ∷ 11 ∷ 20 ∷ 5 ∷ 12 ∷ 20 ∷ 7 ∷ 12 ∷ 20 ∷ 7 ∷ 14 ∷ 22 ∷ 3 ∷ []

@@ -20,7 +20,6 @@ use Rattle.contents.specs.Sites.{siteOf, isAt, holds}
 use Rattle.contents.specs.Kept.{names, kept, keptColumns, firstBare}
 use Rattle.envelopes.specs.Envelope.{filled, listInto, ended, targetsThen, clausesThen, relationsThen, sizesThen, envelopeFrom, readEnvelope, envelopeBytes, checkEnvelope}
 use Rattle.envelopes.specs.Rules.{tidyRelation, tidy}
-use Rattle.entries.specs.declared.places.Place.{Place}
 use Rattle.entries.specs.declared.clauses.Clause.{Clause}
 use Rattle.contents.specs.declared.envelope.Envelope.{Envelope}
 use Rattle.paths.specs.Paths.{edges, onPath}
@@ -31,7 +30,7 @@ use Rattle.paths.specs.Meaning.{rowsIn, tablesIn, tablesOf, meetsAll, answerOn,
 use Rattle.paths.specs.declared.steps.Step.{Step}
 use Rattle.paths.specs.declared.implied.Selected.{Selected}
 use Rattle.paths.specs.declared.implied.Equal.{Equal}
-use Rattle.papers.proofs.ExamplePapers.{_gives_, seen, taken, selection, join, columnWith, small, asks, two, smallAsked, largest, there, back, program, ends, heads, limits, rules, stuffed, structs}
+use Rattle.papers.proofs.ExamplePapers.{_gives_, seen, taken, selection, join, columnWith, small, asks, two, smallAsked, largest, there, back, program, ends, heads, limits, rules, stuffed, structs, days, couponWeigh}
 
 -- ---- paths: legal steps, implied clauses, kept columns
 
@@ -80,27 +79,17 @@ paths =
 
 -- ---- same day: COUPON (number, date), WEIGH (number, date, loss)
 
-abbrev days : List Clause → List Place → Envelope
-days =
-    asks (100 ∷ 100 ∷ 100 ∷ [])
-    (relationWith 0 2 3 (columnWith 0 1 3 ∷ columnWith 1 1 2 ∷ []) ∷ relationWith 1 3 4 (columnWith 0 1 3 ∷ columnWith 1 1 2 ∷ columnWith 2 1 3 ∷ []) ∷ [])
-
-abbrev sheet : List ℕ
-sheet =
-    3 ∷ 4 ∷ 11 ∷ 20 ∷ 12 ∷ 20 ∷ 13 ∷ 21
-    ∷ 11 ∷ 20 ∷ 5 ∷ 12 ∷ 20 ∷ 7 ∷ 12 ∷ 20 ∷ 7 ∷ 14 ∷ 22 ∷ 3 ∷ []
-
 abbrev answers : List Figure
 answers =
-    answerWords (days (join 0 0 1 0 ∷ []) (place 0 0 ∷ place 1 2 ∷ [])) sheet gives (11 ∷ 5 ∷ 12 ∷ 7 ∷ 12 ∷ 7 ∷ [])
-    ∷ answerWords (days (join 0 1 1 1 ∷ []) (place 0 0 ∷ place 1 2 ∷ [])) sheet
+    answerWords (days (join 0 0 1 0 ∷ []) (place 0 0 ∷ place 1 2 ∷ [])) couponWeigh gives (11 ∷ 5 ∷ 12 ∷ 7 ∷ 12 ∷ 7 ∷ [])
+    ∷ answerWords (days (join 0 1 1 1 ∷ []) (place 0 0 ∷ place 1 2 ∷ [])) couponWeigh
     gives (11 ∷ 5 ∷ 11 ∷ 7 ∷ 11 ∷ 7 ∷ 12 ∷ 5 ∷ 12 ∷ 7 ∷ 12 ∷ 7 ∷ [])
     -- no clause: each combination, relation 0 slowest; a target twice
     ∷ answerWords (days [] (place 1 0 ∷ place 0 0 ∷ place 0 0 ∷ [])) (2 ∷ 2 ∷ 1 ∷ 0 ∷ 2 ∷ 0 ∷ 3 ∷ 0 ∷ 0 ∷ 4 ∷ 0 ∷ 0 ∷ [])
     gives (3 ∷ 1 ∷ 1 ∷ 4 ∷ 1 ∷ 1 ∷ 3 ∷ 2 ∷ 2 ∷ 4 ∷ 2 ∷ 2 ∷ [])
     ∷ answerWords (days [] (place 0 0 ∷ [])) (2 ∷ 0 ∷ 1 ∷ 0 ∷ 2 ∷ 0 ∷ []) gives []
-    ∷ answerWords (days (selection 1 2 7 ∷ join 0 0 1 0 ∷ []) (place 1 2 ∷ [])) sheet gives (7 ∷ 7 ∷ [])
-    ∷ answerWords (days (selection 0 0 11 ∷ selection 0 0 12 ∷ []) (place 1 2 ∷ [])) sheet gives []
+    ∷ answerWords (days (selection 1 2 7 ∷ join 0 0 1 0 ∷ []) (place 1 2 ∷ [])) couponWeigh gives (7 ∷ 7 ∷ [])
+    ∷ answerWords (days (selection 0 0 11 ∷ selection 0 0 12 ∷ []) (place 1 2 ∷ [])) couponWeigh gives []
     ∷ []
 
 -- ---- the statements

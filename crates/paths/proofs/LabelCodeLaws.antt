@@ -6,7 +6,7 @@ use Prim.Native.Nat.{ℕ, suc, _+_, _-_, _*_, _≤_, _<_, min}
 use native.Mathlib.Omega.{arith}
 use borrow.Author.Tests.{eq-eqb, ne-eqb}
 use lib.Dec.{eqb}
-use lib.ListN.{length, getD, take, drop, set, length-map, length-take, drop-of-length-le, List·getD-eq-default}
+use lib.ListN.{length, getD, take, drop, set, length-map, length-take, drop-of-length-le}
 use lib.Seq.{drop-cons, getD-take}
 use Rattle.ground.specs.Tests.{pick}
 use Rattle.ground.specs.Lists.{below}
@@ -62,9 +62,6 @@ module _ (e : Envelope) (d v end i : ℕ) (l : Looking firstFrom (selecting (e .
   constant-none u h = rw (← u) (ap (λ (k : ℕ). 64 + k) (first-none (selecting (e .relations) (e .clauses) d v) end i l h))
 
 -- ---- labels
-
-pub no-label : (l : List ℕ) (i : ℕ) → length l ≤ i → 0 ≡ getD l i 0
-no-label l i h = sym (List·getD-eq-default l 0 h)
 
 -- a label a becomes b
 abbrev pub renamed : ℕ → ℕ → ℕ → ℕ

@@ -4,7 +4,7 @@ use mathlib.Core.Path.{_≡_, refl, sym, ap, ap₂, _∙_, subst}
 use mathlib.Core.Logic.{_↔_}
 use mathlib.Core.Bool.{Bool, true, false, _&&_, _||_, false≢true, and-false, and-true, or-false}
 use mathlib.Core.List.{List, [], _∷_, List·Memᴰ, List·Memᴰ·head, List·Memᴰ·tail, Memᴰ·of-map}
-use Prim.Native.Nat.{ℕ, _+_, _≤_, _<_, min}
+use Prim.Native.Nat.{ℕ, _+_, _<_, min}
 use native.Mathlib.Omega.{arith}
 use lib.Dec.{eqb, ltb}
 use lib.ListN.{getD, length, length-map}
@@ -27,7 +27,7 @@ use Rattle.entries.specs.declared.clauses.Clause.{Clause}
 use Rattle.entries.specs.declared.clauses.ClauseKind.{ClauseKind}
 use Rattle.entries.specs.declared.clauses.ClauseKind.the-variants.{Selection, Join}
 use Rattle.contents.specs.declared.envelope.Envelope.{Envelope}
-use Rattle.contents.proofs.PartLaws.{columns-outside}
+use Rattle.contents.proofs.PartLaws.{columns-outside, columns-few}
 use Rattle.paths.specs.Paths.{Node, column, constant, sameNode, Edge, edgeOf, edges, PathBetween, linked, onPath}
 use Rattle.paths.specs.Steps.{isPlace}
 use Rattle.paths.specs.Labels.{selects, NodeOf, numberOf, relabel, united, labelled, labelsOf, byLabels}
@@ -43,10 +43,6 @@ place-in e a t =
 pub in-place : (e : Envelope) (a : Place) → a .relation < relationCount e → a .column < columnsIn e (a .relation) → isPlace e a ≡ true
 unfolding isPlace
 in-place e a h k = and-both (lt-ltb _ _ h) (lt-ltb _ _ k)
-
-pub columns-few : (e : Envelope) (r : ℕ) → columnsIn e r ≤ 8
-unfolding columnsIn
-columns-few e r = omega arith
 
 -- a column of the envelope is a node of it
 pub place-node : (e : Envelope) (a : Place) → isPlace e a ≡ true → NodeOf e (column a)

@@ -26,6 +26,7 @@ use Rattle.paths.specs.Steps.{step, isPlace, legalBy, stepBytes}
 use Rattle.paths.specs.Implied.{constantsOf, selectionsBy, equalitiesBy}
 use Rattle.papers.specs.Programs.{stepsOf, programWith, stepAt, endedProgram, stepsThen, programBy, readProgram, programBytes, checkProgram}
 use Rattle.papers.specs.Checks.{papersOf}
+use Rattle.papers.proofs.ExamplePapers.{couponWeigh}
 use Rattle.paths.specs.Meaning.{Row, rowsIn, tablesIn, tablesOf, meetsAll, answerOn, answerRows, answerWords}
 use Rattle.tables.specs.Offsets.{countIn, wordsBefore, rowsBefore, firstWord, rowsAt, marksAt, rowsOver, marksOver}
 use Rattle.tables.specs.Shape.{shaped}
@@ -55,14 +56,8 @@ onNumber = sameDay (place 0 0) (place 1 0)
 abbrev pub onDate : Envelope
 onDate = sameDay (place 0 1) (place 1 1)
 
-abbrev pub couponWeigh : List ℕ
-couponWeigh =
-    3 ∷ 4
-    ∷ 11 ∷ 20 ∷ 12 ∷ 20 ∷ 13 ∷ 21
-    ∷ 11 ∷ 20 ∷ 5 ∷ 12 ∷ 20 ∷ 7 ∷ 12 ∷ 20 ∷ 7 ∷ 14 ∷ 22 ∷ 3 ∷ []
-
 -- every row kept, and one byte past the last
-abbrev allKept : List ℕ
+abbrev pub allKept : List ℕ
 allKept = 1 ∷ 1 ∷ 1 ∷ 1 ∷ 1 ∷ 1 ∷ 1 ∷ 9 ∷ []
 
 -- any bytes, one past the last row

@@ -7,11 +7,12 @@ use native.Mathlib.Nat.{add-zero, zero-add}
 use native.Mathlib.Numerals.{add-one}
 use native.Mathlib.Omega.{arith}
 use lib.ListN.{length, getD, take, drop, set, length-set, drop-of-length-le}
-use lib.Seq.{sets, length-sets, drop-cons, take-at}
+use lib.Seq.{sets, length-sets, drop-cons}
 use lib.Dec.{eqb}
 use borrow.Author.Tests.{not-true, not-false}
 use Rattle.ground.specs.Tests.{pick}
-use Rattle.ground.specs.Lists.{all, any, each, below, padded, numbersFrom}
+use Rattle.ground.specs.Lists.{all, any, each, below, numbersFrom}
+use Rattle.ground.proofs.CollectingLaws.{padded-take}
 use Rattle.ground.proofs.NumbersLaws.{each-below}
 use Rattle.ground.proofs.PuttingLaws.{sets-append}
 use Rattle.contents.specs.Parts.{relationCount}
@@ -149,21 +150,17 @@ module _ (e : Envelope) (words : List ℕ) (here : ℕ → Bool) where
       module _ (w : Within e) (l : Labels) (f : l ≡ record { of = labelsOf e }) (x : Extent) (k : x ≡ extentOf e words i)
           (s : Selections) (u : s ≡ shownSelections (selectionsBy (byLabels (l .of) e) e i))
           (q : Equalities) (v : q ≡ shownEqualities (equalitiesBy (byLabels (l .of) e) e i)) where
-        front : {A : Type 0} (size : ℕ) (z : A) (list : List A) → take (length list) (padded size z list) ≡ list
-        unfolding padded
-        front size z list = take-at list _ (length list) refl
-
         selections-are : take (s .count) (s .all) ≡ impliedSelections e i
         selections-are =
             ap (λ (y : Selections). take (y .count) (y .all)) u
-            ∙ front 96 (selected 0 0) (selectionsBy (byLabels (l .of) e) e i)
+            ∙ padded-take 96 (selected 0 0) (selectionsBy (byLabels (l .of) e) e i)
             ∙ ap (λ (m : Labels). selectionsBy (byLabels (m .of) e) e i) f
             ∙ selections-by-labels e w i
 
         equalities-are : take (q .count) (q .all) ≡ impliedEqualities e i
         equalities-are =
             ap (λ (y : Equalities). take (y .count) (y .all)) v
-            ∙ front 64 (equal 0 0) (equalitiesBy (byLabels (l .of) e) e i)
+            ∙ padded-take 64 (equal 0 0) (equalitiesBy (byLabels (l .of) e) e i)
             ∙ ap (λ (m : Labels). equalitiesBy (byLabels (m .of) e) e i) f
             ∙ equalities-by-labels e w i
 

@@ -4,7 +4,6 @@ use mathlib.Core.Bool.{Bool, true, false, _&&_}
 use mathlib.Core.List.{List, [], _∷_, _++_, append-assoc}
 use mathlib.Core.Logic.{_↔_}
 use Prim.Native.Nat.{ℕ, zero, suc, _+_, _-_, _≤_, _<_}
-use native.Mathlib.Nat.{zero-add}
 use native.Mathlib.Numerals.{add-one}
 use native.Mathlib.Omega.{arith}
 use lib.ListN.{length, getD, take, drop, length-map, length-append}
@@ -13,10 +12,9 @@ use lib.Dec.{eqb}
 use borrow.Author.Tests.{eqb-true, eq-eqb}
 use Rattle.ground.specs.Tests.{pick}
 use Rattle.ground.specs.Lists.{all, each, below, numbersFrom}
-use Rattle.ground.proofs.CountLaws.{left-suc}
 use Rattle.ground.proofs.TestLaws.{and-left, and-right, and-both}
 use Rattle.ground.proofs.ListLaws.{all-at, all-of, each-append, getD-map}
-use Rattle.ground.proofs.NumbersLaws.{numbers-append, each-below}
+use Rattle.ground.proofs.NumbersLaws.{each-below, below-split}
 use Rattle.ground.proofs.PuttingLaws.{sets-behind}
 use Rattle.entries.specs.Places.{place}
 use Rattle.contents.specs.Parts.{relationCount}
@@ -78,13 +76,6 @@ needed-passes e whole r row (rows, m, met, w) =
 kept-bit : (b : Bool) → isKept (pick b 1 0) ≡ b
 kept-bit true = refl
 kept-bit false = refl
-
--- the numbers below n, cut at r
-below-split : (n r : ℕ) → r < n → below n ≡ below r ++ (r ∷ numbersFrom (r + 1) (n - (r + 1)))
-unfolding numbersFrom
-below-split n r h =
-    let whole : r + (n - r) ≡ n = omega arith in
-    ap below (sym whole) ∙ numbers-append 0 r (n - r) ∙ rw (zero-add r, left-suc n r h)
 
 module _ (e : Envelope) (words : List ℕ) where
   pub opened-at-length : (here : Bool) (r : ℕ) → length (openedAt e words here r) ≡ countIn e words r

@@ -12,8 +12,8 @@ use lib.Dec.{ltb, eqb}
 use borrow.Author.Tests.{le-ltb, eq-eqb}
 use Rattle.ground.specs.Outcome.Outcome.{good, bad}
 use Rattle.ground.specs.Refusing.{Test, test}
-use Rattle.ground.proofs.RefusingLaws.{judged-insert, refusal-listed}
 use Rattle.ground.proofs.OutcomeLaws.{turned-bad}
+use Rattle.ground.proofs.RefusingLaws.{judged-insert, refusal-listed}
 use Rattle.fields.specs.Refusals.{tooShort, notOurs, notSound, alreadyTaken, stepMissing}
 use Rattle.contents.specs.Parts.{relationCount}
 use Rattle.contents.specs.Sites.{isAt}

@@ -1,14 +1,14 @@
 -- What the returns of making a value message cite: 14 and 12, what the values leave of the buffer, and the words in front.
 use mathlib.Core.Path.{_≡_, refl, ap, sym, _∙_}
 use mathlib.Core.Logic.{_≢_}
-use mathlib.Core.Bool.{Bool, true, false, not, _&&_, _||_, false≢true}
+use mathlib.Core.Bool.{Bool, true, false, not, _&&_}
 use mathlib.Core.List.{List, [], _∷_}
 use Prim.Native.Nat.{ℕ, suc, _+_, _≤_, _<_}
 use native.Mathlib.Omega.{arith}
 use lib.ListN.{length, getD, set}
 use lib.Seq.{sets, set-comm}
 use lib.Dec.{ltb}
-use borrow.Author.Tests.{ltb-true, lt-ltb, le-ltb}
+use borrow.Author.Tests.{ltb-true, lt-ltb, le-ltb, not-false}
 use Rattle.ground.specs.Outcome.{Outcome}
 use Rattle.ground.specs.Outcome.Outcome.{good, bad}
 use Rattle.ground.specs.Refusing.{Test, test, judged, judgement}
@@ -16,7 +16,7 @@ use Rattle.ground.specs.declared.Verdict.{Verdict}
 use Rattle.ground.specs.declared.Verdict.the-variants as v
 use Rattle.ground.proofs.CountLaws.{split}
 use Rattle.ground.proofs.OutcomeLaws.{never}
-use Rattle.ground.proofs.TestLaws.{and-left}
+use Rattle.ground.proofs.TestLaws.{and-left, or-none}
 use Rattle.ground.proofs.RefusingLaws.{judge-refused, judge-passed, judge-taken, judge-fail, judge-pass, judge-none}
 use Rattle.fields.specs.Refusals.{tooShort, waiting, notOurs}
 use Rattle.fields.specs.Puts.{fitted, writtenOf, writtenFrom}
@@ -73,14 +73,10 @@ module _ (p : Program) (applied : List ℕ) (ours : Bool) (r n : ℕ) where
         (judge-pass (test (not ours) notOurs 0) (missingTest ∷ []) s
         ∙ judge-pass missingTest [] (missing-not p r (getD applied r 0) n x found t))
 
-first-passes : (a b : Bool) → (not a || b) ≡ false → a ≡ true
-first-passes true b h = refl
-first-passes false b h = absurd (false≢true (sym h))
-
 -- where that passes the message is ours
 pub sending-ours : (p : Program) (applied : List ℕ) (ours : Bool) (r n : ℕ) (x : Verdict) → x ≡ judgement (sendTests p applied ours r n)
     → x ≡ v.Taken → ours ≡ true
-sending-ours p applied ours r n x e h = first-passes ours _ (judge-passed (sendTests p applied ours r n) x e h)
+sending-ours p applied ours r n x e h = not-false ours (or-none _ _ (judge-passed (sendTests p applied ours r n) x e h) .0)
 
 -- a step exists, and its right relation is at a site
 module _ (e : Envelope) (p : Program) (site n r k : ℕ) (f : k ≡ stepCount p) where

@@ -13,12 +13,9 @@ use lib.ListN.{length}
 use lib.Seq.{getD-set-same, getD-set-other}
 use Rattle.ground.specs.Tests.{pick}
 use Rattle.ground.specs.Lists.{below, sum}
-use Rattle.ground.proofs.ListLaws.{filter-length}
-use Rattle.ground.proofs.NumbersLaws.{below-length}
 use Rattle.contents.specs.Parts.{relationCount, columnsIn}
-use Rattle.contents.specs.Kept.{kept, keptColumns}
 use Rattle.contents.specs.declared.envelope.Envelope.{Envelope}
-use Rattle.entries.specs.Places.{place}
+use Rattle.contents.proofs.KeptLaws.{kept-few}
 use Rattle.tables.specs.Offsets.{countIn, firstWord}
 use Rattle.tables.specs.Shape.{shaped}
 use Rattle.tables.specs.Rows.{SameRows}
@@ -35,10 +32,6 @@ use Rattle.station.proofs.RowCodeLaws.{chosen, chosen-few, message-long
 
 -- ---- one row message
 
-few-columns : (e : Envelope) (r : ℕ) → length (keptColumns e r) ≤ columnsIn e r
-unfolding keptColumns
-few-columns e r = omega (arith, filter-length (λ k. kept e (place r k)) (below (columnsIn e r)), below-length (columnsIn e r))
-
 module _ (e : Envelope) (whole : List ℕ) where
   -- the most words that the row message of a relation can have
   abbrev pub mostOf : ℕ → ℕ
@@ -47,7 +40,7 @@ module _ (e : Envelope) (whole : List ℕ) where
   pub message-most : (words marks : List ℕ) (run r : ℕ) → SameRows e r words whole → length (rowMessage run r (sentRows e words marks r)) ≤ mostOf r
   message-most words marks run r same =
       let rows : length (chosen e words marks r) ≤ countIn e whole r = omega (arith, chosen-few e words marks r, same-counts e words whole r same) in
-      omega (arith, message-long e words marks r run, mul-le-mul rows (few-columns e r))
+      omega (arith, message-long e words marks r run, mul-le-mul rows (kept-few e r))
 
   -- ---- the messages that have arrived
 

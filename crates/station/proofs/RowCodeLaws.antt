@@ -7,7 +7,7 @@ use native.Mathlib.Nat.{mul-le-mul-right, suc-mul, zero-mul}
 use native.Mathlib.Numerals.{add-one}
 use native.Mathlib.Omega.{arith}
 use lib.ListN.{length, getD, take, length-append, length-map, length-take}
-use lib.Seq.{sets, length-sets, getD-take, take-length}
+use lib.Seq.{sets, length-sets, getD-take, take-all}
 use Rattle.ground.specs.Lists.{filter, below, numbersFrom, each}
 use Rattle.ground.proofs.ListLaws.{each-append, each-map, filter-length, getD-map}
 use Rattle.ground.proofs.NumbersLaws.{below-length, filter-below}
@@ -34,9 +34,6 @@ module _ (f : ℕ → Bool) (n i count : ℕ) (c : Counting f n i count) (h : i 
 
 -- ---- the words of one row
 
-whole : (l : List ℕ) (n : ℕ) → length l ≡ n → take n l ≡ l
-whole l n e = rw (← e) (take-length l)
-
 module _ (f : ℕ → ℕ) (numbers : List ℕ) (long : length numbers ≡ 8) (count : ℕ) (before : List ℕ) (at end : ℕ) (e : end ≡ min 8 count) where
   abbrev columns : List ℕ
   columns = map f (take count numbers)
@@ -60,7 +57,7 @@ module _ (f : ℕ → ℕ) (numbers : List ℕ) (long : length numbers ≡ 8) (c
         omega (arith, c .place, all-of, length-map (take count numbers) f, ap (λ (l : List ℕ). length l) (c .same) ∙ length-sets before at (take i columns))
 
     pub row-done : end ≤ i → out ≡ sets before at columns
-    row-done h = copying-done columns before at end i p out c h ∙ ap (sets before at) (whole columns end all-of)
+    row-done h = copying-done columns before at end i p out c h ∙ ap (sets before at) (take-all end columns (omega (arith, all-of)))
 
 -- ---- the words of every kept row: f tells those that are kept, words has k words for each
 

@@ -21,11 +21,12 @@ use Rattle.fields.specs.Puts.{fitted}
 use Rattle.fields.specs.declared.puts.Written.{Written}
 use Rattle.fields.specs.declared.puts.Written.the-variants.{Length, Refused}
 use Rattle.fields.proofs.PutLaws.{Writes, writes-bad, writes-good, writes-same, fitted-short, fitted-fits}
-use Rattle.contents.specs.Parts.{relationCount, columnsIn}
+use Rattle.contents.specs.Parts.{relationCount}
 use Rattle.contents.specs.Sites.{isAt}
-use Rattle.contents.specs.Kept.{kept, keptColumns, shownColumns}
+use Rattle.contents.specs.Kept.{keptColumns, shownColumns}
 use Rattle.contents.specs.declared.envelope.Envelope.{Envelope}
 use Rattle.contents.specs.declared.kept.Columns.{Columns}
+use Rattle.contents.proofs.KeptLaws.{kept-most}
 use Rattle.contents.proofs.SiteLaws.{at-none}
 use Rattle.entries.specs.Places.{place}
 use Rattle.papers.specs.Checks.{shownPapers}
@@ -37,7 +38,7 @@ use Rattle.tables.specs.Shape.{shaped}
 use Rattle.tables.specs.Offsets.{extentOf}
 use Rattle.tables.specs.Rows.{wordOver, keptOver, keptAt}
 use Rattle.tables.specs.declared.offsets.Extent.{Extent}
-use Rattle.tables.proofs.ShapeLaws.{shaped-shape, columns-most}
+use Rattle.tables.proofs.ShapeLaws.{shaped-shape}
 use Rattle.tables.proofs.RowLaws.{word-by, kept-by}
 use Rattle.ends.specs.Reducing.{stepCount}
 use Rattle.ends.specs.Ends.{usable}
@@ -61,16 +62,6 @@ module _ (e : Envelope) (words marks : List ℕ) (r : ℕ) (shape : shaped e wor
 
   columns-are : columns ≡ keptColumns e r
   columns-are = ap (λ (k : Columns). take (k .count) (k .numbers)) d ∙ padded-take 8 0 (keptColumns e r)
-
-  few-columns : length (keptColumns e r) ≤ 8
-  unfolding keptColumns
-  few-columns =
-      omega (
-        arith,
-        filter-length (λ k. kept e (place r k)) (below (columnsIn e r)),
-        below-length (columnsIn e r),
-        columns-most e r,
-      )
 
   chosen-is : filter (keptOver x marks) (below (x .rows)) ≡ chosen e words marks r
   chosen-is =
@@ -96,10 +87,10 @@ module _ (e : Envelope) (words marks : List ℕ) (r : ℕ) (shape : shaped e wor
 
   module _ (width : ℕ) (g : width ≡ min 8 (c .count)) where
     width-is : width ≡ length (keptColumns e r)
-    width-is = g ∙ ap (λ (k : Columns). min 8 (k .count)) d ∙ omega (arith, few-columns)
+    width-is = g ∙ ap (λ (k : Columns). min 8 (k .count)) d ∙ omega (arith, kept-most e r)
 
     pub message-product : count * width ≤ 32768
-    message-product = let a : width ≤ 8 = omega (arith, few-columns, width-is) in mul-le-mul message-few a
+    message-product = let a : width ≤ 8 = omega (arith, kept-most e r, width-is) in mul-le-mul message-few a
 
     length-is : length made ≡ 3 + count * width
     length-is =

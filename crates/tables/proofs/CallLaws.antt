@@ -70,11 +70,6 @@ module _ (e : Envelope) (a : Place) (words marks : List ℕ) (start : ℕ) (out 
 
 -- a value occurs, where tables, marks and column are right, as it is among the column's values
 module _ (e : Envelope) (a : Place) (words marks : List ℕ) (x : ℕ) where
-  pub occurs-there : shaped e words ≡ true → rowCount e words ≤ length marks → isPlace e a ≡ true
-      → occursIn e words marks a x ≡ among (valuesOf e words marks a) x
-  unfolding occursIn
-  occurs-there s h c = rw (s, le-leb (rowCount e words) (length marks) h, c)
-
   -- and it occurs exactly where they are right and some kept row has it
   pub occurs-exact : (occursIn e words marks a x ≡ true)
       ↔ ((shaped e words ≡ true) × (rowCount e words ≤ length marks) × (isPlace e a ≡ true)

@@ -1,18 +1,17 @@
 -- What the tests of calls on tables and marks say where they pass, and what the functions that judge them answer.
-use mathlib.Core.Path.{_≡_, refl, sym, ap, _∙_}
-use mathlib.Core.Bool.{Bool, true, false, not, _||_, false≢true}
+use mathlib.Core.Path.{_≡_, sym, ap, _∙_}
+use mathlib.Core.Bool.{Bool, true, false, not}
 use mathlib.Core.List.{List, [], _∷_}
 use mathlib.Core.Logic.{_↔_}
 use Prim.Native.Nat.{ℕ, _≤_, _<_}
 use native.Mathlib.Omega.{arith}
-use lib.Dec.{ltb}
 use borrow.Author.Tests.{ltb-false, lt-ltb, le-ltb, not-true, not-false}
 use Rattle.ground.specs.Outcome.{verdictOf}
 use Rattle.ground.specs.Outcome.Outcome.{good}
 use Rattle.ground.specs.Refusing.{Test, test, judged, judgement}
 use Rattle.ground.specs.declared.Verdict.{Verdict}
 use Rattle.ground.specs.declared.Verdict.the-variants.{Taken, Refused}
-use Rattle.ground.proofs.RefusingLaws.{someFail, judge-refused, judge-passed, judge-taken}
+use Rattle.ground.proofs.RefusingLaws.{someFail, judge-refused, judge-passed, judge-taken, each-passes}
 use Rattle.fields.specs.Refusals.{wrongShape, tooShort, notOurs}
 use Rattle.entries.specs.declared.places.Place.{Place}
 use Rattle.contents.specs.declared.envelope.Envelope.{Envelope}
@@ -22,21 +21,10 @@ use Rattle.tables.specs.Shape.{shaped, marksTests, columnTests}
 
 -- ---- tables, marks and a column that pass their tests
 
-two-pass : (a b : Bool) → (not a || (b || false)) ≡ false → (a ≡ true) × (b ≡ false)
-two-pass true true h = absurd (false≢true (sym h))
-two-pass true false h = (refl, refl)
-two-pass false b h = absurd (false≢true (sym h))
-
-three-pass : (a b d : Bool) → (not a || (b || (not d || false))) ≡ false → (a ≡ true) × (b ≡ false) × (d ≡ true)
-three-pass true true d h = absurd (false≢true (sym h))
-three-pass true false true h = (refl, refl, refl)
-three-pass true false false h = absurd (false≢true (sym h))
-three-pass false b d h = absurd (false≢true (sym h))
-
 module _ (e : Envelope) (words : List ℕ) (n : ℕ) where
   pub marks-pass : (someFail (marksTests e words n) ≡ false) ↔ ((shaped e words ≡ true) × (rowCount e words ≤ n))
   marks-pass = (
-    λ h. let p = two-pass (shaped e words) (ltb n (rowCount e words)) h in (p .0, ltb-false n (rowCount e words) (p .1)),
+    λ h. let p = each-passes (marksTests e words n) h in (not-false _ (p .0), ltb-false n (rowCount e words) (p .1 .0)),
     λ (s, k). rw (s, le-ltb n (rowCount e words) k),
   )
 
@@ -44,8 +32,8 @@ module _ (e : Envelope) (words : List ℕ) (n : ℕ) where
       → (someFail (columnTests e a words n) ≡ false) ↔ ((shaped e words ≡ true) × (rowCount e words ≤ n) × (isPlace e a ≡ true))
   column-pass a = (
     λ h.
-        let p = three-pass (shaped e words) (ltb n (rowCount e words)) (isPlace e a) h in
-        (p .0, ltb-false n (rowCount e words) (p .1), p .2),
+        let p = each-passes (columnTests e a words n) h in
+        (not-false _ (p .0), ltb-false n (rowCount e words) (p .1 .0), not-false _ (p .1 .1 .0)),
     λ (s, k, t). rw (s, le-ltb n (rowCount e words) k, t),
   )
 

@@ -10,18 +10,19 @@ use Rattle.ground.proofs.TestLaws.{not-holds}
 use Rattle.ground.proofs.CountLaws.{split}
 use Rattle.contents.specs.Parts.{relationCount, columnsIn}
 use Rattle.contents.specs.declared.envelope.Envelope.{Envelope}
+use Rattle.contents.proofs.PartLaws.{columns-few}
 use Rattle.tables.specs.Offsets.{countIn, firstWord, firstMark, extentOf}
 use Rattle.tables.specs.Shape.{shaped}
 use Rattle.tables.specs.declared.offsets.Extent.{Extent}
 use Rattle.tables.proofs.OffsetLaws.{count-inside, count-outside, rows-none, rows-more, first-none, first-more}
-use Rattle.tables.proofs.ShapeLaws.{shaped-shape, shape-shaped, shape-counted, columns-most}
+use Rattle.tables.proofs.ShapeLaws.{shaped-shape, shape-shaped, shape-counted}
 
 -- a 32-bit count of rows times at most 8 columns
 pub words-most : (n k : ℕ) → n < 4294967296 → k ≤ 8 → n * k ≤ 34359738368
 words-most n k h l = let m : n * k ≤ n * 8 = mul-le-mul-left n l in omega arith
 
 pub words-fit-in : (e : Envelope) (i rows columns : ℕ) → columns ≡ columnsIn e i → rows < 4294967296 → rows * columns ≤ 34359738368
-words-fit-in e i rows columns g h = words-most rows columns h (omega (arith, columns-most e i))
+words-fit-in e i rows columns g h = words-most rows columns h (omega (arith, columns-few e i))
 
 -- the first so many counts are within their size
 pub record Few (words : List ℕ) (i : ℕ) : Type 0 where
@@ -59,7 +60,7 @@ module _ (e : Envelope) (words : List ℕ) where
   pub adding-more : (i word mark columns rows : ℕ) → Adding i word mark → columns ≡ columnsIn e i → rows ≡ countIn e words i
       → rows < 4294967296 → Adding (i + 1) (word + rows * columns) (mark + rows)
   adding-more i word mark columns rows a g f h =
-      let m : rows * columns ≤ 34359738368 = words-most rows columns h (omega (arith, columns-most e i)) in (
+      let m : rows * columns ≤ 34359738368 = words-most rows columns h (omega (arith, columns-few e i)) in (
         rw (a .0, g, f) (sym (first-more e words i)),
         rw (a .1, f) (sym (rows-more e words i)),
         omega (arith, a .2),

@@ -3,7 +3,6 @@ use mathlib.Core.Path.{_≡_}
 use mathlib.Core.Bool.{true, _&&_}
 use mathlib.Core.List.{List}
 use Prim.Native.Nat.{ℕ, _+_, _*_, _≤_, _<_}
-use native.Mathlib.Nat.{min-le-left}
 use native.Mathlib.Omega.{arith}
 use lib.ListN.{length}
 use lib.Dec.{eqb, leb, ltb}
@@ -37,10 +36,6 @@ pub record Shape (e : Envelope) (words : List ℕ) : Type 0 where
   pub few : (r : ℕ) → countIn e words r ≤ 4096
   pub whole : length words ≡ firstWord e words (relationCount e)
   pub within : length words ≤ 16384
-
-pub columns-most : (e : Envelope) (r : ℕ) → columnsIn e r ≤ 8
-unfolding columnsIn
-columns-most e r = min-le-left 8 _
 
 module _ (e : Envelope) (words : List ℕ) where
   pub shaped-shape : shaped e words ≡ true → Shape e words

@@ -1,5 +1,6 @@
 use native.Mathlib.Omega.{arith}
-use Rattle.ends.proofs.EndLaws.{applied-none}
+use mathlib.Core.Path.{refl}
+use Rattle.ground.proofs.UsedLaws.{element-past}
 use borrow.Author.Needs.{needs}
 use Rattle.ends.proofs.ends.applied_of.Statement.{statement}
 use Rattle.ends.proofs.ends.applied_of.Tie as tie
@@ -8,7 +9,7 @@ use Rattle.ends.proofs.ends.applied_of.Lts as lts
 
 -- src/ends.rt:152:9
 returns : tie.Need-returns
-returns c = applied-none (c .before .args .t1) (c .before .args .relation) (omega arith)
+returns c = element-past (c .before .args .t1) (c .before .args .relation) _ _ (omega arith) refl
 
 -- src/ends.rt:154:5
 mul-result : tie.Need-mul-result

@@ -1,5 +1,5 @@
 use native.Mathlib.Omega.{arith}
-use Rattle.entries.proofs.RelationCodeLaws.{past-column}
+use Rattle.ground.proofs.UsedLaws.{element-past}
 use borrow.Author.Needs.{needs}
 use Rattle.entries.proofs.relations.column_at.Statement.{statement}
 use Rattle.entries.proofs.relations.column_at.Tie as tie
@@ -11,7 +11,7 @@ no-column-requires : tie.Need-no-column-requires
 no-column-requires c κs = search needs
 
 returns : tie.Need-returns
-returns c = past-column (c .before .before .args .t1) (c .before .before .args .i) _ (omega arith) (c .no-column .ensures)
+returns c = element-past (c .before .before .args .t1) (c .before .before .args .i) _ _ (omega arith) (c .no-column .ensures)
 
 mul-result : tie.Need-mul-result
 mul-result c = search needs

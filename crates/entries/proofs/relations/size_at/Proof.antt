@@ -1,5 +1,6 @@
 use native.Mathlib.Omega.{arith}
-use Rattle.entries.proofs.RelationCodeLaws.{past-size}
+use mathlib.Core.Path.{refl}
+use Rattle.ground.proofs.UsedLaws.{element-past}
 use borrow.Author.Needs.{needs}
 use Rattle.entries.proofs.relations.size_at.Statement.{statement}
 use Rattle.entries.proofs.relations.size_at.Tie as tie
@@ -7,7 +8,7 @@ use Rattle.entries.proofs.relations.size_at.Reads as reads
 use Rattle.entries.proofs.relations.size_at.Lts as lts
 
 returns : tie.Need-returns
-returns c = past-size (c .before .args .t1) (c .before .args .i) (omega arith)
+returns c = element-past (c .before .args .t1) (c .before .args .i) _ _ (omega arith) refl
 
 mul-result : tie.Need-mul-result
 mul-result c = search needs

@@ -1,4 +1,5 @@
-use Rattle.envelopes.proofs.ReadingLaws.{clauses-bad, clauses-good}
+use Rattle.envelopes.specs.Envelope.{clausesThen}
+use Rattle.envelopes.proofs.ReadingLaws.{then-bad, then-good}
 use borrow.Author.Needs.{needs}
 use Rattle.envelopes.proofs.reading.from_clauses.Statement.{statement}
 use Rattle.envelopes.proofs.reading.from_clauses.Tie as tie
@@ -24,10 +25,12 @@ from-targets-requires : tie.Need-from-targets-requires
 from-targets-requires c κs = search needs
 
 returns : tie.Need-returns
-returns c = search (clauses-bad, needs)
+unfolding clausesThen
+returns c = search (then-bad, needs)
 
 returns-2 : tie.Need-returns-2
-returns-2 c = search (clauses-good, needs)
+unfolding clausesThen
+returns-2 c = search (then-good, needs)
 
 pub from-clauses-spec : {M : Type 1} → statement M
 from-clauses-spec =

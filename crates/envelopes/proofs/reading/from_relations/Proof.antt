@@ -1,4 +1,5 @@
-use Rattle.envelopes.proofs.ReadingLaws.{relations-bad, relations-good}
+use Rattle.envelopes.specs.Envelope.{relationsThen}
+use Rattle.envelopes.proofs.ReadingLaws.{then-bad, then-good}
 use borrow.Author.Needs.{needs}
 use Rattle.envelopes.proofs.reading.from_relations.Statement.{statement}
 use Rattle.envelopes.proofs.reading.from_relations.Tie as tie
@@ -24,10 +25,12 @@ from-clauses-requires : tie.Need-from-clauses-requires
 from-clauses-requires c κs = search needs
 
 returns : tie.Need-returns
-returns c = search (relations-bad, needs)
+unfolding relationsThen
+returns c = search (then-bad, needs)
 
 returns-2 : tie.Need-returns-2
-returns-2 c = search (relations-good, needs)
+unfolding relationsThen
+returns-2 c = search (then-good, needs)
 
 pub from-relations-spec : {M : Type 1} → statement M
 from-relations-spec =

@@ -1,5 +1,5 @@
-use Rattle.envelopes.proofs.ReadingLaws.{domains-few}
-use Rattle.envelopes.proofs.ReadingLaws.{sizes-bad, sizes-good}
+use Rattle.envelopes.specs.Envelope.{sizesThen}
+use Rattle.envelopes.proofs.ReadingLaws.{domains-few, then-bad, then-good}
 use borrow.Author.Needs.{needs}
 use Rattle.envelopes.proofs.reading.from_sizes.Statement.{statement}
 use Rattle.envelopes.proofs.reading.from_sizes.Tie as tie
@@ -25,10 +25,12 @@ from-relations-requires : tie.Need-from-relations-requires
 from-relations-requires c κs = search (domains-few, needs)
 
 returns : tie.Need-returns
-returns c = search (sizes-bad, needs)
+unfolding sizesThen
+returns c = search (then-bad, needs)
 
 returns-2 : tie.Need-returns-2
-returns-2 c = search (sizes-good, needs)
+unfolding sizesThen
+returns-2 c = search (then-good, needs)
 
 pub from-sizes-spec : {M : Type 1} → statement M
 from-sizes-spec =

@@ -1,4 +1,5 @@
-use Rattle.envelopes.proofs.ReadingLaws.{targets-bad, targets-good}
+use Rattle.envelopes.specs.Envelope.{targetsThen}
+use Rattle.envelopes.proofs.ReadingLaws.{then-bad, then-good}
 use borrow.Author.Needs.{needs}
 use Rattle.envelopes.proofs.reading.from_targets.Statement.{statement}
 use Rattle.envelopes.proofs.reading.from_targets.Tie as tie
@@ -24,10 +25,12 @@ at-end-requires : tie.Need-at-end-requires
 at-end-requires c κs = search needs
 
 returns : tie.Need-returns
-returns c = search (targets-bad, needs)
+unfolding targetsThen
+returns c = search (then-bad, needs)
 
 returns-2 : tie.Need-returns-2
-returns-2 c = search (targets-good, needs)
+unfolding targetsThen
+returns-2 c = search (then-good, needs)
 
 pub from-targets-spec : {M : Type 1} → statement M
 from-targets-spec =

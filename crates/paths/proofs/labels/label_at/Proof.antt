@@ -1,5 +1,6 @@
 use native.Mathlib.Omega.{arith}
-use Rattle.paths.proofs.LabelCodeLaws.{no-label}
+use mathlib.Core.Path.{refl}
+use Rattle.ground.proofs.UsedLaws.{element-past}
 use borrow.Author.Needs.{needs}
 use Rattle.paths.proofs.labels.label_at.Statement.{statement}
 use Rattle.paths.proofs.labels.label_at.Tie as tie
@@ -7,7 +8,7 @@ use Rattle.paths.proofs.labels.label_at.Reads as reads
 use Rattle.paths.proofs.labels.label_at.Lts as lts
 
 returns : tie.Need-returns
-returns c = no-label (c .before .args .t1) (c .before .args .i) (omega arith)
+returns c = element-past (c .before .args .t1) (c .before .args .i) _ _ (omega arith) refl
 
 array-read-result : tie.Need-array-read-result
 array-read-result c = search needs
