@@ -1,15 +1,14 @@
 // Answers, run: those of the same day, on number and on date, on tables and at an end after a run, and each refusal of an answer
 // at an end; under each line the buffer that was lent, as it is afterwards. COUPON (number, date) is relation 0 at site 1, where the
 // answer is assembled; WEIGH (number, date, loss) is relation 1 at site 2; step 0 reduces COUPON by WEIGH.
-use answerer::answer::Answered;
 use contents::envelope::Envelope;
 use ends::ends::End;
 use entries::clauses::Clause;
 use entries::clauses::ClauseKind;
 use entries::places::Place;
+use fields::puts::Written;
 use papers::programs::Program;
 use paths::steps::Step;
-use station::making::Made;
 
 const RUN: u32 = 5;
 
@@ -59,15 +58,15 @@ fn print_words(what: &[u8], words: &[u32]) {
     io::write_all(1, b"\n");
 }
 
-fn print_answered(what: &[u8], answered: Answered, out: &[u32]) {
+fn print_answered(what: &[u8], answered: Written, out: &[u32]) {
     io::write_all(1, what);
     match answered {
-        Answered::Length(n) => {
+        Written::Length(n) => {
             io::write_all(1, b": ");
             io::print_decimal(1, n as u64);
             io::write_all(1, b" words\n");
         }
-        Answered::Refused { number, position } => {
+        Written::Refused { number, position } => {
             io::write_all(1, b": refused ");
             io::print_decimal(1, number as u64);
             io::write_all(1, b" ");
@@ -128,14 +127,14 @@ fn asked(what: &[u8], end: End, store: &[u32]) {
 }
 
 // A message that was made, at the end that answers.
-fn delivered(end: End, marks: &mut [u8], store: &mut [u32], made: Made, message: &[u32]) -> End {
+fn delivered(end: End, marks: &mut [u8], store: &mut [u32], made: Written, message: &[u32]) -> End {
     let coupons = COUPONS;
     match made {
-        Made::Refused {
+        Written::Refused {
             number: _,
             position: _,
         } => end,
-        Made::Length(n) => {
+        Written::Length(n) => {
             if message.len() < n {
                 return end;
             }
@@ -146,7 +145,7 @@ fn delivered(end: End, marks: &mut [u8], store: &mut [u32], made: Made, message:
 }
 
 // The row message of WEIGH, or the values of step 0, made at site 2.
-fn made_there(column: u8, rows: bool, message: &mut [u32]) -> Made {
+fn made_there(column: u8, rows: bool, message: &mut [u32]) -> Written {
     let weights = WEIGHTS;
     let envelope = envelope_on(column);
     let program = program_on(column);

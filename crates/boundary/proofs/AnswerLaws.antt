@@ -6,11 +6,7 @@ use Rattle.ground.specs.declared.Verdict.{Verdict}
 use Rattle.ground.specs.declared.Verdict.the-variants as verdict
 use Rattle.fields.specs.declared.puts.Written.{Written}
 use Rattle.fields.specs.declared.puts.Written.the-variants as written
-use Rattle.station.specs.declared.making.Made.{Made}
-use Rattle.station.specs.declared.making.Made.the-variants as made
-use Rattle.answerer.specs.declared.answer.Answered.{Answered}
-use Rattle.answerer.specs.declared.answer.Answered.the-variants as answered
-use Rattle.boundary.specs.Answers.{asWord, answerWord, verdictWord, writtenWord, madeWord, answeredWord}
+use Rattle.boundary.specs.Answers.{asWord, answerWord, verdictWord, writtenWord}
 
 -- ---- the number and the value are in the answer, where the value is a word
 
@@ -52,19 +48,3 @@ written-length v r n e f = rw e f
 pub written-refused : (v : Written) (r n p : ℕ) → v ≡ written.Refused n p → r ≡ answerWord n p → r ≡ writtenWord v
 unfolding writtenWord
 written-refused v r n p e f = rw e f
-
-pub made-length : (v : Made) (r n : ℕ) → v ≡ made.Length n → r ≡ answerWord 0 n → r ≡ madeWord v
-unfolding madeWord
-made-length v r n e f = rw e f
-
-pub made-refused : (v : Made) (r n p : ℕ) → v ≡ made.Refused n p → r ≡ answerWord n p → r ≡ madeWord v
-unfolding madeWord
-made-refused v r n p e f = rw e f
-
-pub answered-length : (v : Answered) (r n : ℕ) → v ≡ answered.Length n → r ≡ answerWord 0 n → r ≡ answeredWord v
-unfolding answeredWord
-answered-length v r n e f = rw e f
-
-pub answered-refused : (v : Answered) (r n p : ℕ) → v ≡ answered.Refused n p → r ≡ answerWord n p → r ≡ answeredWord v
-unfolding answeredWord
-answered-refused v r n p e f = rw e f

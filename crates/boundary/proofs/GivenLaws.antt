@@ -6,7 +6,7 @@ use Prim.Native.Nat.{ℕ, _≤_, _<_}
 use lib.ListN.{length}
 use borrow.Author.Tests.{lt-ltb, le-ltb}
 use Rattle.ground.specs.Tests.{pick}
-use Rattle.ground.specs.Outcome.{Outcome, next, verdictOf, valueOf, nextOf}
+use Rattle.ground.specs.Outcome.{Outcome, next, verdictOf, nextOf, leaves}
 use Rattle.ground.specs.Outcome.Outcome.{good, bad}
 use Rattle.ground.specs.Refusing.{test, judged}
 use Rattle.ground.specs.declared.Verdict.the-variants.{Taken, Refused}
@@ -56,7 +56,7 @@ module _ (e p : List ℕ) (c : EnvelopeRead) (g : c ≡ shownEnvelope (readEnvel
 
     pub given-papers : x .verdict ≡ Taken
         → record { verdict = Taken; papers = record { envelope = c .envelope; program = x .program } } ≡ shownPapers (papersIn e p)
-    unfolding verdictOf valueOf
+    unfolding verdictOf leaves
     given-papers v =
         ap (λ (o : Outcome Program). shownPapers (next o (λ q at. good (record { envelope = c .envelope; program = q }) at)))
         (sym (program-taken (readProgram (c .envelope) p) x k v))
@@ -65,7 +65,7 @@ module _ (e p : List ℕ) (c : EnvelopeRead) (g : c ≡ shownEnvelope (readEnvel
 -- ---- ends
 
 pub end-none : (m u : ℕ) (x : End) → x ≡ noEnd → record { verdict = Refused m u; end = x } ≡ shownEnd (bad m u)
-unfolding shownEnd verdictOf valueOf
+unfolding shownEnd verdictOf leaves
 end-none m u x e = rw e refl
 
 pub end-taken : (o : Outcome End) (z : EndRead) → z ≡ shownEnd o → z .verdict ≡ Taken → o ≡ good (z .end) (nextOf o)
@@ -113,5 +113,5 @@ module _ (e p s : List ℕ) where
       end-unclear w z k = k ∙ ap shownEnd (sym (by-words true w))
 
       pub end-read : b ≡ false → (x : End) → x ≡ endOf (c .papers) s → record { verdict = Taken; end = x } ≡ shownEnd (endIn e p s)
-      unfolding shownEnd verdictOf valueOf
+      unfolding shownEnd verdictOf leaves
       end-read w x k = rw k (ap shownEnd (sym (by-words false w)))

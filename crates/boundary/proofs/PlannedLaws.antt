@@ -28,7 +28,7 @@ use Rattle.planner.specs.Plan.{planFor, planOf, planned}
 use Rattle.planner.proofs.PlanLaws.{plan-part, plan-legal, plan-site, part-few}
 use Rattle.planner.proofs.DropCodeLaws.{with-steps, with-acceptable}
 use Rattle.boundary.specs.Given.{papersIn}
-use Rattle.boundary.specs.Planning.{lineSteps, programOf, programFor, planChecked}
+use Rattle.boundary.specs.Planning.{lineSteps, programOf, programFor, planChecked, planFrom}
 
 map-alike : {A B : Type 0} (f : A → B) (n : ℕ) (z : A) → map f (replicate n z) ≡ replicate n (f z)
 map-alike f zero z = refl
@@ -92,8 +92,9 @@ module _ (s : List ℕ) (bytes : Bytes s) (e : Envelope) (at : ℕ) (read : read
   plan-papers = rw (read, plan-back)
 
   -- and so is what plan leaves at the front of the buffer, as far as the length that it answers
-  pub plan-left : (out : List ℕ) (n : ℕ) → writtenOf (planChecked s) (programBytes (programFor s)) out ≡ Length n
-      → papersIn s (take n (writtenIn (planChecked s) (programBytes (programFor s)) out)) ≡ good (record { envelope = e; program = programFor s }) n
+  pub plan-left : (out : List ℕ) (n : ℕ) → writtenOf (planFrom s (length out)) ≡ Length n
+      → papersIn s (take n (writtenIn out (planFrom s (length out)))) ≡ good (record { envelope = e; program = programFor s }) n
+  unfolding planFrom
   plan-left out n w =
       let (_, _, _, long, same) = written-back (planChecked s) (programBytes (programFor s)) out n w in
       rw same (plan-papers ∙ ap (good (record { envelope = e; program = programFor s })) (sym long))

@@ -7,20 +7,23 @@ use native.Mathlib.Omega.{arith}
 use lib.ListN.{length, getD, take, drop, set, length-append, length-map, length-take, drop-of-length-le}
 use lib.Seq.{sets, sets-eq, take-all}
 use Rattle.ground.specs.Lists.{each}
-use Rattle.ground.specs.Outcome.{Outcome}
+use Rattle.ground.specs.Outcome.{Outcome, next}
 use Rattle.ground.specs.declared.Verdict.{Verdict}
 use Rattle.ground.specs.declared.Verdict.the-variants.{Taken, Refused}
+use Rattle.ground.proofs.OutcomeLaws.{next-next}
 use Rattle.ground.proofs.ListLaws.{getD-map}
 use Rattle.ground.proofs.PuttingLaws.{Copying, copying-more, copying-done, sets-append}
 use Rattle.ground.proofs.WritingLaws.{Writing, writing-more}
 use Rattle.fields.specs.Refusals.{tooShort}
-use Rattle.fields.specs.Puts.{writtenOf, writtenIn, Puts}
+use Rattle.fields.specs.Puts.{fitted, Puts}
 use Rattle.fields.specs.declared.puts.Written.{Written}
+use Rattle.fields.specs.declared.puts.Written.the-variants as written
+use Rattle.fields.proofs.PutLaws.{Writes, writes-bad, writes-good, fitted-short, fitted-fits}
 use Rattle.envelopes.specs.Envelope.{readEnvelope, shownEnvelope}
 use Rattle.contents.specs.declared.envelope.Envelope.{Envelope}
 use Rattle.envelopes.specs.declared.reading.EnvelopeRead.{EnvelopeRead}
 use Rattle.envelopes.proofs.ReadingLaws.{read-taken, read-refused}
-use Rattle.papers.specs.Programs.{programBytes, checkProgram, programWritten, programWrittenIn}
+use Rattle.papers.specs.Programs.{programBytes, checkProgram, writeProgramOf}
 use Rattle.papers.specs.Checks.{papersOf, shownPapers}
 use Rattle.paths.specs.declared.steps.Step.{Step}
 use Rattle.papers.specs.declared.programs.Program.{Program}
@@ -32,15 +35,10 @@ use Rattle.planner.specs.Plan.{planOf}
 use Rattle.estimates.specs.declared.lines.Line.{Line}
 use Rattle.planner.specs.declared.plans.Plan.{Plan}
 use Rattle.estimates.specs.declared.lines.Estimate.{Estimate}
-use Rattle.station.specs.Calls.{leaves}
-use Rattle.station.specs.Making.{fitted, shownMade, madeIn}
-use Rattle.station.proofs.MakingCodeLaws.{makes-bad, makes-good, fitted-short, fitted-fits}
-use Rattle.station.specs.declared.making.Made.{Made}
-use Rattle.station.specs.declared.making.Made.the-variants as made
-use Rattle.boundary.specs.Answers.{answerWord, writtenWord, madeWord}
+use Rattle.boundary.specs.Answers.{answerWord, writtenWord}
 use Rattle.boundary.specs.Given.{papersIn}
-use Rattle.boundary.specs.Planning.{lineSteps, programOf, programFor, planChecked, pairOf, lineWords, estimateWords, unless, estimateWith, estimateFrom}
-use Rattle.boundary.proofs.CallLaws.{refused-says, taken-says}
+use Rattle.boundary.specs.Planning.{lineSteps, programOf, programFor, planChecked, planFrom, pairOf, lineWords, estimateWords, unless, estimateWith, estimateFrom}
+use Rattle.boundary.proofs.CallLaws.{Gives, gives-refused, gives-taken}
 
 -- ---- the steps of a plan's lines
 
@@ -80,25 +78,25 @@ program-is s x steps e f = rw f (ap programOf e)
 -- ---- planning
 
 module _ (s out : List ℕ) (c : EnvelopeRead) (g : c ≡ shownEnvelope (readEnvelope s)) where
-  abbrev Plans : ℕ → List ℕ → Outcome Program → Type 0
-  Plans r after o =
-      (r ≡ writtenWord (writtenOf o (programBytes (programFor s)) out)) × (after ≡ writtenIn o (programBytes (programFor s)) out)
+  -- the program is written for the envelope as any program is
+  as-written : planFrom s (length out) ≡ next (readEnvelope s) (λ e _. writeProgramOf e (programFor s) (length out))
+  unfolding planFrom planChecked writeProgramOf
+  as-written =
+      next-next (readEnvelope s) (λ (e : Envelope) (_ : ℕ). checkProgram e (programFor s))
+      (λ (_ : Program) (_ : ℕ). fitted (length out) (programBytes (programFor s)))
 
-  abbrev planning : Envelope → Outcome Program
-  planning e = checkProgram e (programFor s)
-
-  pub plan-refused : (m u r : ℕ) → c .verdict ≡ Refused m u → r ≡ answerWord m u → Plans r out (planChecked s)
-  unfolding writtenOf writtenIn writtenWord planChecked
+  pub plan-refused : (m u r : ℕ) → c .verdict ≡ Refused m u → r ≡ answerWord m u → Gives out r out (planFrom s (length out))
   plan-refused m u r t k =
-      refused-says (readEnvelope s) (λ e _. planning e) (Plans r out) m u (read-refused (readEnvelope s) c m u g t) (k, refl)
+      rw as-written
+      (gives-refused (readEnvelope s) (λ e _. writeProgramOf e (programFor s) (length out)) out m u r (read-refused (readEnvelope s) c m u g t) k)
 
   pub plan-taken : c .verdict ≡ Taken → (h : Program) (v : Written) (after : List ℕ) (r : ℕ) → h ≡ programFor s
-      → (v ≡ programWritten (c .envelope) h out) × (after ≡ programWrittenIn (c .envelope) h out) → r ≡ writtenWord v
-      → Plans r after (planChecked s)
-  unfolding planChecked
+      → Writes 0 out (writeProgramOf (c .envelope) h (length out)) v after → r ≡ writtenWord v → Gives out r after (planFrom s (length out))
   plan-taken t h v after r e l k =
-      taken-says (readEnvelope s) (λ e _. planning e) (Plans r after) (c .envelope) _ (read-taken (readEnvelope s) c g t)
-      (rw (← e) (k ∙ ap writtenWord (l .0), l .1))
+      rw as-written
+      (gives-taken (readEnvelope s) (λ e _. writeProgramOf e (programFor s) (length out)) out (c .envelope) _ (read-taken (readEnvelope s) c g t) v after r
+      (rw e at l)
+      k)
 
 -- ---- words put
 
@@ -143,17 +141,17 @@ module _ (x : Estimate) (lines : List Line) (same : lines ≡ x .lines) (whole :
       ∙ rw (lines-long (take (x .count) (x .lines)), length-take (x .count) (x .lines)) (omega (arith, long, e))
 
   module _ (out : List ℕ) where
-    abbrev Estimates : Made → List ℕ → Type 0
-    Estimates z after = (z ≡ shownMade (estimateWith x (length out))) × (after ≡ madeIn out (estimateWith x (length out)))
+    abbrev Estimates : Written → List ℕ → Type 0
+    Estimates z after = Writes 0 out (estimateWith x (length out)) z after
 
     module _ (t : x .verdict ≡ Taken) where
       as-fitted : estimateWith x (length out) ≡ fitted (length out) (estimateWords x)
       unfolding estimateWith unless
       as-fitted = ap (λ (v : Verdict). unless v (fitted (length out) (estimateWords x))) t
 
-      pub estimate-short : length out < 4 * n + 4 → Estimates (made.Refused tooShort 0) out
+      pub estimate-short : length out < 4 * n + 4 → Estimates (written.Refused tooShort 0) out
       estimate-short h =
-          makes-bad out (estimateWith x (length out)) tooShort 0
+          writes-bad 0 out (estimateWith x (length out)) tooShort 0
           (as-fitted ∙ fitted-short (length out) (estimateWords x) (omega (arith, h, words-count)))
 
       abbrev body : List ℕ
@@ -179,33 +177,27 @@ module _ (x : Estimate) (lines : List Line) (same : lines ≡ x .lines) (whole :
         unfolding estimateWords
         put-far = omega (arith, own .0, g .0, length-append body foot)
 
-        pub estimate-put : 4 * n + 4 ≤ length out → Estimates (made.Length q) after
+        pub estimate-put : 4 * n + 4 ≤ length out → Estimates (written.Length q) after
         estimate-put h =
-            makes-good out (estimateWith x (length out)) (estimateWords x) q after
+            writes-good 0 out (estimateWith x (length out)) (estimateWords x) _ q after
             (as-fitted ∙ fitted-fits (length out) (estimateWords x) (omega (arith, h, words-count))) put-far put-whole
 
 pub estimate-none : (x : Estimate) (out : List ℕ) (m u : ℕ) → x .verdict ≡ Refused m u
-    → (made.Refused m u ≡ shownMade (estimateWith x (length out))) × (out ≡ madeIn out (estimateWith x (length out)))
-unfolding estimateWith unless shownMade leaves
-estimate-none x out m u t = rw t (refl, refl)
+    → Writes 0 out (estimateWith x (length out)) (written.Refused m u) out
+unfolding estimateWith unless
+estimate-none x out m u t = writes-bad 0 out _ m u (rw t)
 
 module _ (e p out : List ℕ) (c : PapersRead) (g : c ≡ shownPapers (papersIn e p)) where
-  abbrev Costs : ℕ → List ℕ → Outcome (List ℕ) → Type 0
-  Costs r after o = (r ≡ madeWord (shownMade o)) × (after ≡ madeIn out o)
+  abbrev costing : Papers → ℕ → Outcome (List ℕ)
+  costing q _ = estimateWith (estimateOf (papersOf (q .envelope) (q .program))) (length out)
 
-  abbrev costing : Papers → Outcome (List ℕ)
-  costing q = estimateWith (estimateOf (papersOf (q .envelope) (q .program))) (length out)
+  pub estimate-refused : (m u r : ℕ) → c .verdict ≡ Refused m u → r ≡ answerWord m u → Gives out r out (estimateFrom e p (length out))
+  unfolding estimateFrom
+  estimate-refused m u r t k = gives-refused (papersIn e p) costing out m u r (papers-refused (papersIn e p) c m u g t) k
 
-  pub estimate-refused : (m u r : ℕ) → c .verdict ≡ Refused m u → r ≡ answerWord m u → Costs r out (estimateFrom e p (length out))
-  unfolding estimateFrom shownMade madeWord leaves
-  estimate-refused m u r t k =
-      refused-says (papersIn e p) (λ q _. costing q) (Costs r out) m u (papers-refused (papersIn e p) c m u g t) (k, refl)
-
-  pub estimate-taken : c .verdict ≡ Taken → (x : Estimate) (z : Made) (after : List ℕ) (r : ℕ)
-      → x ≡ estimateOf (papersOf (c .papers .envelope) (c .papers .program))
-      → (z ≡ shownMade (estimateWith x (length out))) × (after ≡ madeIn out (estimateWith x (length out))) → r ≡ madeWord z
-      → Costs r after (estimateFrom e p (length out))
+  pub estimate-taken : c .verdict ≡ Taken → (x : Estimate) (z : Written) (after : List ℕ) (r : ℕ)
+      → x ≡ estimateOf (papersOf (c .papers .envelope) (c .papers .program)) → Writes 0 out (estimateWith x (length out)) z after
+      → r ≡ writtenWord z → Gives out r after (estimateFrom e p (length out))
   unfolding estimateFrom
   estimate-taken t x z after r f l k =
-      taken-says (papersIn e p) (λ q _. costing q) (Costs r after) (c .papers) _ (papers-taken (papersIn e p) c g t)
-      (rw (← f) (k ∙ ap madeWord (l .0), l .1))
+      gives-taken (papersIn e p) costing out (c .papers) _ (papers-taken (papersIn e p) c g t) z after r (rw f at l) k

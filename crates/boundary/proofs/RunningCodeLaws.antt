@@ -1,10 +1,13 @@
 -- The returns of the calls on tables of every relation.
-use mathlib.Core.Path.{_≡_, refl, sym, ap, _∙_}
+use mathlib.Core.Path.{_≡_, sym, ap, _∙_}
 use mathlib.Core.List.{List}
 use Prim.Native.Nat.{ℕ}
-use Rattle.ground.specs.Outcome.{Outcome, verdictOf}
+use Rattle.ground.specs.Outcome.{Outcome, verdictOf, valueOf}
 use Rattle.ground.specs.declared.Verdict.{Verdict}
 use Rattle.ground.specs.declared.Verdict.the-variants.{Taken, Refused}
+use Rattle.ground.proofs.OutcomeLaws.{leaves-bad}
+use Rattle.fields.specs.declared.puts.Written.{Written}
+use Rattle.fields.proofs.PutLaws.{Writes}
 use Rattle.envelopes.specs.Envelope.{readEnvelope, shownEnvelope}
 use Rattle.contents.specs.declared.envelope.Envelope.{Envelope}
 use Rattle.envelopes.specs.declared.reading.EnvelopeRead.{EnvelopeRead}
@@ -13,15 +16,12 @@ use Rattle.papers.specs.Checks.{shownPapers}
 use Rattle.papers.specs.declared.checks.Papers.{Papers}
 use Rattle.papers.specs.declared.checks.PapersRead.{PapersRead}
 use Rattle.papers.proofs.CheckLaws.{papers-taken, papers-refused}
-use Rattle.semijoin.specs.Marks.{marksAfter}
-use Rattle.semijoin.proofs.CallPromiseLaws.{call-promise}
 use Rattle.semijoin.specs.Run.{runOutcome}
-use Rattle.answerer.specs.Answer.{answerOutcome, answeredOf, answeredIn}
-use Rattle.answerer.specs.declared.answer.Answered.{Answered}
-use Rattle.boundary.specs.Answers.{answerWord, verdictWord, answeredWord}
+use Rattle.answerer.specs.Answer.{answerOutcome}
+use Rattle.boundary.specs.Answers.{answerWord, verdictWord, writtenWord}
 use Rattle.boundary.specs.Given.{papersIn}
 use Rattle.boundary.specs.Running.{runFrom, answerFrom}
-use Rattle.boundary.proofs.CallLaws.{refused-says, taken-says}
+use Rattle.boundary.proofs.CallLaws.{refused-says, taken-says, Gives, gives-refused, gives-taken}
 
 -- the papers that are read, or one of them
 pub envelope-said : (e : List ℕ) (c : EnvelopeRead) (r : ℕ) → c ≡ shownEnvelope (readEnvelope e) → r ≡ verdictWord (c .verdict)
@@ -34,7 +34,7 @@ papers-said e p c r g k = k ∙ ap (λ (x : PapersRead). verdictWord (x .verdict
 
 module _ (e p words marks : List ℕ) (c : PapersRead) (g : c ≡ shownPapers (papersIn e p)) where
   abbrev Runs : ℕ → List ℕ → Outcome (List ℕ) → Type 0
-  Runs r after o = (r ≡ verdictWord (verdictOf o)) × (after ≡ marksAfter marks o)
+  Runs r after o = (r ≡ verdictWord (verdictOf o)) × (after ≡ valueOf marks o)
 
   abbrev running : Papers → Outcome (List ℕ)
   running q = runOutcome (q .envelope) (q .program) words marks
@@ -43,10 +43,10 @@ module _ (e p words marks : List ℕ) (c : PapersRead) (g : c ≡ shownPapers (p
   unfolding runFrom verdictOf verdictWord
   run-refused m u r t k =
       refused-says (papersIn e p) (λ q _. running q) (Runs r marks) m u (papers-refused (papersIn e p) c m u g t)
-      (k, sym (call-promise .marks-kept marks m u))
+      (k, sym (leaves-bad _ marks m u))
 
   pub run-taken : c .verdict ≡ Taken → (v : Verdict) (after : List ℕ) (r : ℕ)
-      → (v ≡ verdictOf (running (c .papers))) × (after ≡ marksAfter marks (running (c .papers))) → r ≡ verdictWord v
+      → (v ≡ verdictOf (running (c .papers))) × (after ≡ valueOf marks (running (c .papers))) → r ≡ verdictWord v
       → Runs r after (runFrom e p words marks)
   unfolding runFrom
   run-taken t v after r l k =
@@ -54,21 +54,14 @@ module _ (e p words marks : List ℕ) (c : PapersRead) (g : c ≡ shownPapers (p
       (k ∙ ap verdictWord (l .0), l .1)
 
 module _ (e words out : List ℕ) (c : EnvelopeRead) (g : c ≡ shownEnvelope (readEnvelope e)) where
-  abbrev Answers : ℕ → List ℕ → Outcome (List ℕ) → Type 0
-  Answers r after o = (r ≡ answeredWord (answeredOf o)) × (after ≡ answeredIn out o)
+  abbrev answering : Envelope → ℕ → Outcome (List ℕ)
+  answering f _ = answerOutcome f words out
 
-  abbrev answering : Envelope → Outcome (List ℕ)
-  answering f = answerOutcome f words out
-
-  pub answer-refused : (m u r : ℕ) → c .verdict ≡ Refused m u → r ≡ answerWord m u → Answers r out (answerFrom e words out)
-  unfolding answerFrom answeredOf answeredWord answeredIn
-  answer-refused m u r t k =
-      refused-says (readEnvelope e) (λ f _. answering f) (Answers r out) m u (read-refused (readEnvelope e) c m u g t) (k, refl)
-
-  pub answer-taken : c .verdict ≡ Taken → (v : Answered) (after : List ℕ) (r : ℕ)
-      → (v ≡ answeredOf (answering (c .envelope))) × (after ≡ answeredIn out (answering (c .envelope))) → r ≡ answeredWord v
-      → Answers r after (answerFrom e words out)
+  pub answer-refused : (m u r : ℕ) → c .verdict ≡ Refused m u → r ≡ answerWord m u → Gives out r out (answerFrom e words out)
   unfolding answerFrom
-  answer-taken t v after r l k =
-      taken-says (readEnvelope e) (λ f _. answering f) (Answers r after) (c .envelope) _ (read-taken (readEnvelope e) c g t)
-      (k ∙ ap answeredWord (l .0), l .1)
+  answer-refused m u r t k = gives-refused (readEnvelope e) answering out m u r (read-refused (readEnvelope e) c m u g t) k
+
+  pub answer-taken : c .verdict ≡ Taken → (v : Written) (after : List ℕ) (r : ℕ) → Writes 0 out (answerOutcome (c .envelope) words out) v after
+      → r ≡ writtenWord v → Gives out r after (answerFrom e words out)
+  unfolding answerFrom
+  answer-taken t v after r l k = gives-taken (readEnvelope e) answering out (c .envelope) _ (read-taken (readEnvelope e) c g t) v after r l k

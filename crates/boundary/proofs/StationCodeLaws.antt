@@ -4,65 +4,70 @@ use mathlib.Core.List.{List}
 use Prim.Native.Nat.{ℕ, _≤_, _<_}
 use lib.ListN.{length}
 use borrow.Author.Tests.{lt-ltb, le-ltb}
-use Rattle.ground.specs.Outcome.{Outcome, next, verdictOf}
+use Rattle.ground.specs.Outcome.{Outcome, next, verdictOf, leaves}
 use Rattle.ground.specs.Outcome.Outcome.{bad}
 use Rattle.ground.specs.declared.Verdict.{Verdict}
 use Rattle.ground.specs.declared.Verdict.the-variants.{Taken, Refused}
 use Rattle.ground.proofs.OutcomeLaws.{refused-is}
 use Rattle.fields.specs.Refusals.{beyondLimit}
-use Rattle.station.specs.Calls.{leaves}
-use Rattle.station.specs.Making.{makeValuesOf, makeRowsOf, shownMade, madeIn}
+use Rattle.fields.specs.declared.puts.Written.{Written}
+use Rattle.fields.proofs.PutLaws.{Writes}
+use Rattle.station.specs.Making.{makeValuesOf, makeRowsOf}
 use Rattle.station.specs.Receiving.{Held, receiveOf, shownReceived, receivedMarks, receivedStore}
 use Rattle.ends.specs.declared.ends.End.{End}
-use Rattle.station.specs.declared.making.Made.{Made}
 use Rattle.station.specs.declared.receiving.Received.{Received}
-use Rattle.answerer.specs.Answer.{answeredOf, answeredIn}
 use Rattle.answerer.specs.Assembly.{assembledOutcome}
-use Rattle.answerer.specs.declared.answer.Answered.{Answered}
-use Rattle.boundary.specs.Answers.{answerWord, verdictWord, madeWord, answeredWord}
+use Rattle.boundary.specs.Answers.{answerWord, verdictWord, writtenWord}
 use Rattle.boundary.specs.States.{stateAfter}
 use Rattle.boundary.specs.Given.{endIn, shownEnd}
 use Rattle.boundary.specs.Stations.{makeValuesFrom, makeRowsFrom, receiveGiven, receiveFrom, receivedState, answerEndFrom}
 use Rattle.boundary.specs.declared.given.EndRead.{EndRead}
-use Rattle.boundary.proofs.CallLaws.{refused-says, taken-says, leaves-same, leaves-taken}
+use Rattle.boundary.proofs.CallLaws.{refused-says, taken-says, Gives, gives-refused, gives-taken, leaves-same, leaves-taken}
 use Rattle.boundary.proofs.GivenLaws.{end-taken, end-refused}
 
--- ---- making
+-- ---- a call that writes: making, and answering
 
-abbrev Makes : List ℕ → ℕ → List ℕ → Outcome (List ℕ) → Type 0
-Makes out r after o = (r ≡ madeWord (shownMade o)) × (after ≡ madeIn out o)
+module _ (e p s : List ℕ) (c : EndRead) (g : c ≡ shownEnd (endIn e p s)) (out : List ℕ) (call : End → Outcome (List ℕ)) where
+  abbrev called : Outcome (List ℕ)
+  called = next (endIn e p s) (λ x _. call x)
 
-module _ (e p s : List ℕ) (c : EndRead) (g : c ≡ shownEnd (endIn e p s)) (out : List ℕ) (made : End → Outcome (List ℕ)) where
-  make-none : (m u r : ℕ) → c .verdict ≡ Refused m u → r ≡ answerWord m u → Makes out r out (next (endIn e p s) (λ x _. made x))
-  unfolding shownMade madeWord leaves
-  make-none m u r t k = refused-says (endIn e p s) (λ x _. made x) (Makes out r out) m u (end-refused (endIn e p s) c m u g t) (k, refl)
+  call-refused : (m u r : ℕ) → c .verdict ≡ Refused m u → r ≡ answerWord m u → Gives out r out called
+  call-refused m u r t k = gives-refused (endIn e p s) (λ x _. call x) out m u r (end-refused (endIn e p s) c m u g t) k
 
-  make-some : c .verdict ≡ Taken → (z : Made) (after : List ℕ) (r : ℕ)
-      → (z ≡ shownMade (made (c .end))) × (after ≡ madeIn out (made (c .end))) → r ≡ madeWord z
-      → Makes out r after (next (endIn e p s) (λ x _. made x))
-  make-some t z after r l k =
-      taken-says (endIn e p s) (λ x _. made x) (Makes out r after) (c .end) _ (end-taken (endIn e p s) c g t) (k ∙ ap madeWord (l .0), l .1)
+  call-taken : c .verdict ≡ Taken → (z : Written) (after : List ℕ) (r : ℕ) → Writes 0 out (call (c .end)) z after → r ≡ writtenWord z
+      → Gives out r after called
+  call-taken t z after r l k = gives-taken (endIn e p s) (λ x _. call x) out (c .end) _ (end-taken (endIn e p s) c g t) z after r l k
 
 module _ (e p s words marks : List ℕ) (n : ℕ) (out : List ℕ) (c : EndRead) (g : c ≡ shownEnd (endIn e p s)) where
-  pub values-refused : (m u r : ℕ) → c .verdict ≡ Refused m u → r ≡ answerWord m u → Makes out r out (makeValuesFrom e p s words marks n (length out))
+  pub values-refused : (m u r : ℕ) → c .verdict ≡ Refused m u → r ≡ answerWord m u → Gives out r out (makeValuesFrom e p s words marks n (length out))
   unfolding makeValuesFrom
-  values-refused = make-none e p s c g out (λ x. makeValuesOf x words marks n (length out))
+  values-refused = call-refused e p s c g out (λ x. makeValuesOf x words marks n (length out))
 
-  pub values-taken : c .verdict ≡ Taken → (z : Made) (after : List ℕ) (r : ℕ)
-      → (z ≡ shownMade (makeValuesOf (c .end) words marks n (length out))) × (after ≡ madeIn out (makeValuesOf (c .end) words marks n (length out)))
-      → r ≡ madeWord z → Makes out r after (makeValuesFrom e p s words marks n (length out))
+  pub values-taken : c .verdict ≡ Taken → (z : Written) (after : List ℕ) (r : ℕ)
+      → Writes 0 out (makeValuesOf (c .end) words marks n (length out)) z after → r ≡ writtenWord z
+      → Gives out r after (makeValuesFrom e p s words marks n (length out))
   unfolding makeValuesFrom
-  values-taken = make-some e p s c g out (λ x. makeValuesOf x words marks n (length out))
+  values-taken = call-taken e p s c g out (λ x. makeValuesOf x words marks n (length out))
 
-  pub rows-refused : (m u r : ℕ) → c .verdict ≡ Refused m u → r ≡ answerWord m u → Makes out r out (makeRowsFrom e p s words marks n (length out))
+  pub rows-refused : (m u r : ℕ) → c .verdict ≡ Refused m u → r ≡ answerWord m u → Gives out r out (makeRowsFrom e p s words marks n (length out))
   unfolding makeRowsFrom
-  rows-refused = make-none e p s c g out (λ x. makeRowsOf x words marks n (length out))
+  rows-refused = call-refused e p s c g out (λ x. makeRowsOf x words marks n (length out))
 
-  pub rows-taken : c .verdict ≡ Taken → (z : Made) (after : List ℕ) (r : ℕ)
-      → (z ≡ shownMade (makeRowsOf (c .end) words marks n (length out))) × (after ≡ madeIn out (makeRowsOf (c .end) words marks n (length out)))
-      → r ≡ madeWord z → Makes out r after (makeRowsFrom e p s words marks n (length out))
+  pub rows-taken : c .verdict ≡ Taken → (z : Written) (after : List ℕ) (r : ℕ)
+      → Writes 0 out (makeRowsOf (c .end) words marks n (length out)) z after → r ≡ writtenWord z
+      → Gives out r after (makeRowsFrom e p s words marks n (length out))
   unfolding makeRowsFrom
-  rows-taken = make-some e p s c g out (λ x. makeRowsOf x words marks n (length out))
+  rows-taken = call-taken e p s c g out (λ x. makeRowsOf x words marks n (length out))
+
+module _ (e p s store out : List ℕ) (c : EndRead) (g : c ≡ shownEnd (endIn e p s)) where
+  pub answer-refused : (m u r : ℕ) → c .verdict ≡ Refused m u → r ≡ answerWord m u → Gives out r out (answerEndFrom e p s store out)
+  unfolding answerEndFrom
+  answer-refused = call-refused e p s c g out (λ x. assembledOutcome x store out)
+
+  pub answer-taken : c .verdict ≡ Taken → (z : Written) (after : List ℕ) (r : ℕ) → Writes 0 out (assembledOutcome (c .end) store out) z after
+      → r ≡ writtenWord z → Gives out r after (answerEndFrom e p s store out)
+  unfolding answerEndFrom
+  answer-taken = call-taken e p s c g out (λ x. assembledOutcome x store out)
 
 -- ---- receiving
 
@@ -139,25 +144,3 @@ module _ (e p s words marks store m : List ℕ) (c : EndRead) (g : c ≡ shownEn
   all-taken t v last after held r l k =
       taken-says (endIn e p s) (λ x _. receiving x) (Receiving r last after held) (c .end) _ (end-taken (endIn e p s) c g t)
       (k ∙ ap verdictWord (l .0), l .1, l .2, l .3)
-
--- ---- answering
-
-module _ (e p s store out : List ℕ) (c : EndRead) (g : c ≡ shownEnd (endIn e p s)) where
-  abbrev Answering : ℕ → List ℕ → Outcome (List ℕ) → Type 0
-  Answering r after o = (r ≡ answeredWord (answeredOf o)) × (after ≡ answeredIn out o)
-
-  abbrev answering : End → Outcome (List ℕ)
-  answering x = assembledOutcome x store out
-
-  pub answer-refused : (m u r : ℕ) → c .verdict ≡ Refused m u → r ≡ answerWord m u → Answering r out (answerEndFrom e p s store out)
-  unfolding answerEndFrom answeredOf answeredWord answeredIn
-  answer-refused m u r t k =
-      refused-says (endIn e p s) (λ x _. answering x) (Answering r out) m u (end-refused (endIn e p s) c m u g t) (k, refl)
-
-  pub answer-taken : c .verdict ≡ Taken → (z : Answered) (after : List ℕ) (r : ℕ)
-      → (z ≡ answeredOf (answering (c .end))) × (after ≡ answeredIn out (answering (c .end)))
-      → r ≡ answeredWord z → Answering r after (answerEndFrom e p s store out)
-  unfolding answerEndFrom
-  answer-taken t z after r l k =
-      taken-says (endIn e p s) (λ x _. answering x) (Answering r after) (c .end) _ (end-taken (endIn e p s) c g t)
-      (k ∙ ap answeredWord (l .0), l .1)

@@ -6,10 +6,6 @@ use Rattle.ground.specs.declared.Verdict.{Verdict}
 use Rattle.ground.specs.declared.Verdict.the-variants as verdict
 use Rattle.fields.specs.declared.puts.Written.{Written}
 use Rattle.fields.specs.declared.puts.Written.the-variants as written
-use Rattle.station.specs.declared.making.Made.{Made}
-use Rattle.station.specs.declared.making.Made.the-variants as made
-use Rattle.answerer.specs.declared.answer.Answered.{Answered}
-use Rattle.answerer.specs.declared.answer.Answered.the-variants as answered
 
 -- a number as a word
 unfoldable pub asWord : ℕ → ℕ
@@ -26,11 +22,3 @@ verdictWord (verdict.Refused n p) = answerWord n p
 unfoldable pub writtenWord : Written → ℕ
 writtenWord (written.Length n) = answerWord 0 n
 writtenWord (written.Refused n p) = answerWord n p
-
-unfoldable pub madeWord : Made → ℕ
-madeWord (made.Length n) = answerWord 0 n
-madeWord (made.Refused n p) = answerWord n p
-
-unfoldable pub answeredWord : Answered → ℕ
-answeredWord (answered.Length n) = answerWord 0 n
-answeredWord (answered.Refused n p) = answerWord n p

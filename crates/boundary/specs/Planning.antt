@@ -8,8 +8,9 @@ use Rattle.ground.specs.Outcome.{Outcome, next}
 use Rattle.ground.specs.Outcome.Outcome.{bad}
 use Rattle.ground.specs.declared.Verdict.{Verdict}
 use Rattle.ground.specs.declared.Verdict.the-variants as verdict
+use Rattle.fields.specs.Puts.{fitted}
 use Rattle.envelopes.specs.Envelope.{readEnvelope}
-use Rattle.papers.specs.Programs.{checkProgram}
+use Rattle.papers.specs.Programs.{programBytes, checkProgram}
 use Rattle.papers.specs.Checks.{papersOf}
 use Rattle.papers.specs.declared.programs.Program.{Program}
 use Rattle.estimates.specs.Estimate.{estimateOf}
@@ -18,7 +19,6 @@ use Rattle.estimates.specs.declared.lines.Line.{Line}
 use Rattle.planner.specs.declared.plans.Plan.{Plan}
 use Rattle.estimates.specs.declared.lines.Estimate.{Estimate}
 use Rattle.paths.specs.declared.steps.Step.{Step}
-use Rattle.station.specs.Making.{fitted}
 use Rattle.boundary.specs.Given.{papersIn}
 
 -- ---- the program handed out
@@ -35,6 +35,9 @@ programFor s = programOf (planOf (readEnvelope s))
 -- checked before it is written, as any program is
 unfoldable pub planChecked : List ℕ → Outcome Program
 planChecked s = next (readEnvelope s) (λ e _. checkProgram e (programFor s))
+
+unfoldable pub planFrom : List ℕ → ℕ → Outcome (List ℕ)
+planFrom s room = next (planChecked s) (λ _ _. fitted room (programBytes (programFor s)))
 
 -- ---- the estimate
 

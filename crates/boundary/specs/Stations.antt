@@ -3,13 +3,12 @@ use Prim.Native.Nat.{ℕ}
 use mathlib.Core.List.{List, [], _∷_}
 use lib.ListN.{length}
 use lib.Dec.{ltb}
-use Rattle.ground.specs.Outcome.{Outcome, next}
+use Rattle.ground.specs.Outcome.{Outcome, next, leaves}
 use Rattle.ground.specs.Outcome.Outcome.{good}
 use Rattle.ground.specs.Refusing.{test, judged}
 use Rattle.fields.specs.Refusals.{beyondLimit, tooShort}
 use Rattle.contents.specs.declared.envelope.Envelope.{Envelope}
 use Rattle.papers.specs.declared.programs.Program.{Program}
-use Rattle.station.specs.Calls.{leaves}
 use Rattle.ends.specs.Ends.{Marked}
 use Rattle.station.specs.Opening.{openOf}
 use Rattle.station.specs.Making.{makeValuesOf, makeRowsOf}

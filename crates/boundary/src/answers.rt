@@ -1,10 +1,8 @@
 // What a call answers, as one number: the refusal's number times 2^32, and its position, or the length written.
-use answerer::answer::Answered;
 use fields::puts::Written;
 use ground::Verdict;
-use station::making::Made;
 ghost use mathlib.Core.Path.{_≡_};
-ghost use Rattle.boundary.specs.Answers.{asWord, answerWord, verdictWord, writtenWord, madeWord, answeredWord};
+ghost use Rattle.boundary.specs.Answers.{asWord, answerWord, verdictWord, writtenWord};
 
 // A number as a word; the greatest word for one that is beyond it.
 pub(crate) fn as_word(n: usize) -> u32
@@ -34,23 +32,5 @@ pub(crate) fn of_written(written: Written) -> u64
     match written {
         Written::Length(n) => answer_of(0, n),
         Written::Refused { number, position } => answer_of(number, position),
-    }
-}
-
-pub(crate) fn of_made(made: Made) -> u64
-    ensures { λ r. ⌜ r ≡ madeWord made ⌝ }
-{
-    match made {
-        Made::Length(n) => answer_of(0, n),
-        Made::Refused { number, position } => answer_of(number, position),
-    }
-}
-
-pub(crate) fn of_answered(answered: Answered) -> u64
-    ensures { λ r. ⌜ r ≡ answeredWord answered ⌝ }
-{
-    match answered {
-        Answered::Length(n) => answer_of(0, n),
-        Answered::Refused { number, position } => answer_of(number, position),
     }
 }

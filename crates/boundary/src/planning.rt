@@ -1,11 +1,11 @@
 // The calls that plan and estimate: the program for an envelope, written; what a program is expected to cost, in words.
 use estimates::lines::Estimate;
 use estimates::lines::Line;
+use fields::puts::Written;
 use fields::refusals;
 use ground::Verdict;
 use papers::programs::Program;
 use paths::steps::Step;
-use station::making::Made;
 ghost use mathlib.Core.Path.{_≡_};
 ghost use mathlib.Core.List.{_++_};
 ghost use lib.ListN.{length, set, take};
@@ -13,13 +13,11 @@ ghost use lib.Seq.{sets};
 ghost use Prim.Native.Nat.{_+_, _≤_};
 ghost use Rattle.ground.specs.Lists.{each};
 ghost use Rattle.fields.specs.Puts.{writtenOf, writtenIn, Puts};
-ghost use Rattle.papers.specs.Programs.{programBytes};
-ghost use Rattle.station.specs.Making.{shownMade, madeIn};
-ghost use Rattle.boundary.specs.Answers.{writtenWord, madeWord};
+ghost use Rattle.boundary.specs.Answers.{writtenWord};
 ghost use Rattle.boundary.specs.Planning.{
   lineSteps,
   programFor,
-  planChecked,
+  planFrom,
   pairOf,
   lineWords,
   estimateWith,
@@ -58,7 +56,7 @@ fn program_for(envelope: &[u8]) -> Program
 // 3: the program for an envelope, at the front of program. Taken, the bytes written.
 #[no_mangle]
 pub extern "C" fn legestran_plan(envelope: &[u8], program: &mut [u8]) -> u64
-    ensures { λ r. ⌜ (r ≡ writtenWord (writtenOf (planChecked (now (envelope .entry))) (programBytes (programFor (now (envelope .entry)))) (now (program .entry)))) × (now (program .exit) ≡ writtenIn (planChecked (now (envelope .entry))) (programBytes (programFor (now (envelope .entry)))) (now (program .entry))) ⌝ }
+    ensures { λ r. ⌜ (r ≡ writtenWord (writtenOf (planFrom (now (envelope .entry)) (length (now (program .entry)))))) × (now (program .exit) ≡ writtenIn (now (program .entry)) (planFrom (now (envelope .entry)) (length (now (program .entry))))) ⌝ }
 {
     let read = envelopes::reading::read_envelope(envelope);
     let verdict = read.verdict;
@@ -117,24 +115,24 @@ fn put_lines(out: &mut [u32], lines: [Line; 156], count: u8) -> usize
 }
 
 // The words of an estimate, or its refusal, or 11.
-fn put_estimate(estimate: Estimate, lines: [Line; 156], out: &mut [u32]) -> Made
+fn put_estimate(estimate: Estimate, lines: [Line; 156], out: &mut [u32]) -> Written
     requires { ⌜ lines ≡ estimate .lines ⌝ }
-    ensures { λ r. ⌜ (r ≡ shownMade (estimateWith estimate (length (now (out .entry))))) × (now (out .exit) ≡ madeIn (now (out .entry)) (estimateWith estimate (length (now (out .entry))))) ⌝ }
+    ensures { λ r. ⌜ (r ≡ writtenOf (estimateWith estimate (length (now (out .entry))))) × (now (out .exit) ≡ writtenIn (now (out .entry)) (estimateWith estimate (length (now (out .entry))))) ⌝ }
 {
     let verdict = estimate.verdict;
     match verdict {
-        Verdict::Refused { number, position } => Made::Refused { number, position },
+        Verdict::Refused { number, position } => Written::Refused { number, position },
         Verdict::Taken => {
             let steps = ground::used::in_use(156, estimate.count);
             if out.len() < 4 * steps + 4 {
-                return Made::Refused {
+                return Written::Refused {
                     number: refusals::TOO_SHORT,
                     position: 0,
                 };
             }
             let p = put_lines(out, lines, estimate.count);
             let end = put_two(out, p, estimate.assembly, estimate.total);
-            Made::Length(end)
+            Written::Length(end)
         }
     }
 }
@@ -142,7 +140,7 @@ fn put_estimate(estimate: Estimate, lines: [Line; 156], out: &mut [u32]) -> Made
 // 11: what a program is expected to cost, at the front of out. Taken, the words written.
 #[no_mangle]
 pub extern "C" fn legestran_estimate(envelope: &[u8], program: &[u8], out: &mut [u32]) -> u64
-    ensures { λ r. ⌜ (r ≡ madeWord (shownMade (estimateFrom (now (envelope .entry)) (now (program .entry)) (length (now (out .entry)))))) × (now (out .exit) ≡ madeIn (now (out .entry)) (estimateFrom (now (envelope .entry)) (now (program .entry)) (length (now (out .entry))))) ⌝ }
+    ensures { λ r. ⌜ (r ≡ writtenWord (writtenOf (estimateFrom (now (envelope .entry)) (now (program .entry)) (length (now (out .entry)))))) × (now (out .exit) ≡ writtenIn (now (out .entry)) (estimateFrom (now (envelope .entry)) (now (program .entry)) (length (now (out .entry))))) ⌝ }
 {
     let read = crate::given::read_papers(envelope, program);
     let verdict = read.verdict;
@@ -154,8 +152,8 @@ pub extern "C" fn legestran_estimate(envelope: &[u8], program: &[u8], out: &mut 
             let steps = papers.program;
             let estimate = estimates::estimator::estimate(own, steps);
             let lines = estimate.lines;
-            let made = put_estimate(estimate, lines, out);
-            crate::answers::of_made(made)
+            let costs = put_estimate(estimate, lines, out);
+            crate::answers::of_written(costs)
         }
     }
 }

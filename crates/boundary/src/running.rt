@@ -1,10 +1,9 @@
 // The calls on tables of every relation: the one-place run of a program, and the answer.
 use ground::Verdict;
 ghost use mathlib.Core.Path.{_≡_};
-ghost use Rattle.ground.specs.Outcome.{verdictOf};
-ghost use Rattle.semijoin.specs.Marks.{marksAfter};
-ghost use Rattle.answerer.specs.Answer.{answeredOf, answeredIn};
-ghost use Rattle.boundary.specs.Answers.{verdictWord, answeredWord};
+ghost use Rattle.ground.specs.Outcome.{verdictOf, valueOf};
+ghost use Rattle.fields.specs.Puts.{writtenOf, writtenIn};
+ghost use Rattle.boundary.specs.Answers.{verdictWord, writtenWord};
 ghost use Rattle.boundary.specs.Running.{runFrom, answerFrom};
 
 // 4: the one-place run of a program: the marks of every row, after local operations and every step. Taken, 0.
@@ -15,7 +14,7 @@ pub extern "C" fn legestran_run_in_one_place(
     tables: &[u32],
     marks: &mut [u8],
 ) -> u64
-    ensures { λ r. ⌜ (r ≡ verdictWord (verdictOf (runFrom (now (envelope .entry)) (now (program .entry)) (now (tables .entry)) (now (marks .entry))))) × (now (marks .exit) ≡ marksAfter (now (marks .entry)) (runFrom (now (envelope .entry)) (now (program .entry)) (now (tables .entry)) (now (marks .entry)))) ⌝ }
+    ensures { λ r. ⌜ (r ≡ verdictWord (verdictOf (runFrom (now (envelope .entry)) (now (program .entry)) (now (tables .entry)) (now (marks .entry))))) × (now (marks .exit) ≡ valueOf (now (marks .entry)) (runFrom (now (envelope .entry)) (now (program .entry)) (now (tables .entry)) (now (marks .entry)))) ⌝ }
 {
     let read = crate::given::read_papers(envelope, program);
     let verdict = read.verdict;
@@ -34,7 +33,7 @@ pub extern "C" fn legestran_run_in_one_place(
 // 5: the answer on tables, at the front of out. Taken, the words written.
 #[no_mangle]
 pub extern "C" fn legestran_answer(envelope: &[u8], tables: &[u32], out: &mut [u32]) -> u64
-    ensures { λ r. ⌜ (r ≡ answeredWord (answeredOf (answerFrom (now (envelope .entry)) (now (tables .entry)) (now (out .entry))))) × (now (out .exit) ≡ answeredIn (now (out .entry)) (answerFrom (now (envelope .entry)) (now (tables .entry)) (now (out .entry)))) ⌝ }
+    ensures { λ r. ⌜ (r ≡ writtenWord (writtenOf (answerFrom (now (envelope .entry)) (now (tables .entry)) (now (out .entry))))) × (now (out .exit) ≡ writtenIn (now (out .entry)) (answerFrom (now (envelope .entry)) (now (tables .entry)) (now (out .entry)))) ⌝ }
 {
     let read = envelopes::reading::read_envelope(envelope);
     let verdict = read.verdict;
@@ -43,7 +42,7 @@ pub extern "C" fn legestran_answer(envelope: &[u8], tables: &[u32], out: &mut [u
         Verdict::Taken => {
             let own = read.envelope;
             let answered = answerer::answer::answer(own, tables, out);
-            crate::answers::of_answered(answered)
+            crate::answers::of_written(answered)
         }
     }
 }

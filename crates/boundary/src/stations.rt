@@ -9,11 +9,10 @@ ghost use mathlib.Core.List.{[]};
 ghost use Prim.Native.Nat.{_≤_};
 ghost use lib.ListN.{length};
 ghost use Rattle.ground.specs.Outcome.{verdictOf};
+ghost use Rattle.fields.specs.Puts.{writtenOf, writtenIn};
 ghost use Rattle.station.specs.Opening.{openedMarks};
-ghost use Rattle.station.specs.Making.{shownMade, madeIn};
 ghost use Rattle.station.specs.Receiving.{receivedMarks, receivedStore};
-ghost use Rattle.answerer.specs.Answer.{answeredOf, answeredIn};
-ghost use Rattle.boundary.specs.Answers.{verdictWord, madeWord, answeredWord};
+ghost use Rattle.boundary.specs.Answers.{verdictWord, writtenWord};
 ghost use Rattle.boundary.specs.States.{stateLength};
 ghost use Rattle.boundary.specs.Stations.{
   openGiven,
@@ -115,7 +114,7 @@ pub extern "C" fn legestran_make_values(
     step: u32,
     message: &mut [u32],
 ) -> u64
-    ensures { λ r. ⌜ (r ≡ madeWord (shownMade (makeValuesFrom (now (envelope .entry)) (now (program .entry)) (now (state .entry)) (now (tables .entry)) (now (marks .entry)) step (length (now (message .entry)))))) × (now (message .exit) ≡ madeIn (now (message .entry)) (makeValuesFrom (now (envelope .entry)) (now (program .entry)) (now (state .entry)) (now (tables .entry)) (now (marks .entry)) step (length (now (message .entry))))) ⌝ }
+    ensures { λ r. ⌜ (r ≡ writtenWord (writtenOf (makeValuesFrom (now (envelope .entry)) (now (program .entry)) (now (state .entry)) (now (tables .entry)) (now (marks .entry)) step (length (now (message .entry)))))) × (now (message .exit) ≡ writtenIn (now (message .entry)) (makeValuesFrom (now (envelope .entry)) (now (program .entry)) (now (state .entry)) (now (tables .entry)) (now (marks .entry)) step (length (now (message .entry))))) ⌝ }
 {
     let read = crate::given::read_end(envelope, program, state);
     let verdict = read.verdict;
@@ -124,7 +123,7 @@ pub extern "C" fn legestran_make_values(
         Verdict::Taken => {
             let end = read.end;
             let values = station::making::make_values(end, tables, marks, step, message);
-            crate::answers::of_made(values)
+            crate::answers::of_written(values)
         }
     }
 }
@@ -140,7 +139,7 @@ pub extern "C" fn legestran_make_rows(
     relation: u32,
     message: &mut [u32],
 ) -> u64
-    ensures { λ r. ⌜ (r ≡ madeWord (shownMade (makeRowsFrom (now (envelope .entry)) (now (program .entry)) (now (state .entry)) (now (tables .entry)) (now (marks .entry)) relation (length (now (message .entry)))))) × (now (message .exit) ≡ madeIn (now (message .entry)) (makeRowsFrom (now (envelope .entry)) (now (program .entry)) (now (state .entry)) (now (tables .entry)) (now (marks .entry)) relation (length (now (message .entry))))) ⌝ }
+    ensures { λ r. ⌜ (r ≡ writtenWord (writtenOf (makeRowsFrom (now (envelope .entry)) (now (program .entry)) (now (state .entry)) (now (tables .entry)) (now (marks .entry)) relation (length (now (message .entry)))))) × (now (message .exit) ≡ writtenIn (now (message .entry)) (makeRowsFrom (now (envelope .entry)) (now (program .entry)) (now (state .entry)) (now (tables .entry)) (now (marks .entry)) relation (length (now (message .entry))))) ⌝ }
 {
     let read = crate::given::read_end(envelope, program, state);
     let verdict = read.verdict;
@@ -149,7 +148,7 @@ pub extern "C" fn legestran_make_rows(
         Verdict::Taken => {
             let end = read.end;
             let rows = station::making::make_rows(end, tables, marks, relation, message);
-            crate::answers::of_made(rows)
+            crate::answers::of_written(rows)
         }
     }
 }
@@ -218,7 +217,7 @@ pub extern "C" fn legestran_answer_at_end(
     store: &[u32],
     out: &mut [u32],
 ) -> u64
-    ensures { λ r. ⌜ (r ≡ answeredWord (answeredOf (answerEndFrom (now (envelope .entry)) (now (program .entry)) (now (state .entry)) (now (store .entry)) (now (out .entry))))) × (now (out .exit) ≡ answeredIn (now (out .entry)) (answerEndFrom (now (envelope .entry)) (now (program .entry)) (now (state .entry)) (now (store .entry)) (now (out .entry)))) ⌝ }
+    ensures { λ r. ⌜ (r ≡ writtenWord (writtenOf (answerEndFrom (now (envelope .entry)) (now (program .entry)) (now (state .entry)) (now (store .entry)) (now (out .entry))))) × (now (out .exit) ≡ writtenIn (now (out .entry)) (answerEndFrom (now (envelope .entry)) (now (program .entry)) (now (state .entry)) (now (store .entry)) (now (out .entry)))) ⌝ }
 {
     let read = crate::given::read_end(envelope, program, state);
     let verdict = read.verdict;
@@ -227,7 +226,7 @@ pub extern "C" fn legestran_answer_at_end(
         Verdict::Taken => {
             let end = read.end;
             let answered = answerer::assembly::answer_at_end(end, store, out);
-            crate::answers::of_answered(answered)
+            crate::answers::of_written(answered)
         }
     }
 }

@@ -1,7 +1,7 @@
 // What is printed: how a call is answered, and what was lent, as it is afterwards.
 use ends::ends::End;
+use fields::puts::Written;
 use ground::Verdict;
-use station::making::Made;
 
 pub(crate) fn print_verdict(what: &[u8], verdict: Verdict) {
     io::write_all(1, what);
@@ -74,15 +74,15 @@ pub(crate) fn print_end(end: End) {
     io::write_all(1, b"\n");
 }
 
-pub(crate) fn print_made(what: &[u8], made: Made, message: &[u32]) {
+pub(crate) fn print_made(what: &[u8], made: Written, message: &[u32]) {
     match made {
-        Made::Length(n) => {
+        Written::Length(n) => {
             io::write_all(1, what);
             io::write_all(1, b": made ");
             io::print_decimal(1, n as u64);
             io::write_all(1, b"\n");
         }
-        Made::Refused { number, position } => {
+        Written::Refused { number, position } => {
             print_verdict(what, Verdict::Refused { number, position });
         }
     }

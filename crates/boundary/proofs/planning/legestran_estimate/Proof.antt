@@ -5,7 +5,7 @@ use Rattle.boundary.proofs.planning.legestran_estimate.Tie as tie
 use Rattle.boundary.proofs.planning.legestran_estimate.Reads as reads
 use Rattle.boundary.proofs.planning.legestran_estimate.Lts as lts
 use Rattle.boundary.proofs.answers.answer_of.Reads as answer-of-reads
-use Rattle.boundary.proofs.answers.of_made.Reads as of-made-reads
+use Rattle.boundary.proofs.answers.of_written.Reads as of-written-reads
 use Rattle.boundary.proofs.given.read_papers.Reads as read-papers-reads
 use Rattle.boundary.proofs.planning.put_estimate.Reads as put-estimate-reads
 use Rattle.estimates.proofs.estimator.estimate.Reads as estimate-reads
@@ -35,8 +35,8 @@ put-estimate-requires : tie.Need-put-estimate-requires
 put-estimate-requires c κs = search needs
 
 -- src/planning.rt:163:13
-of-made-requires : tie.Need-of-made-requires
-of-made-requires c κs = search needs
+of-written-requires : tie.Need-of-written-requires
+of-written-requires c κs = search needs
 
 -- src/planning.rt:148:1
 returns : tie.Need-returns
@@ -48,7 +48,7 @@ same-length c = search needs
 
 -- src/planning.rt:148:1
 returns-2 : tie.Need-returns-2
-returns-2 c = estimate-taken _ _ _ _ (c .before .before .before .before .before .before .before .before .before .before .before .before .read-papers .ensures) (c .before .before .before .before .before .before .before .before .before .before .enum-told .given .1) _ _ _ _ (c .before .before .before .before .before .before .estimate .ensures) (c .before .before .before .put-estimate .ensures) (c .of-made .ensures)
+returns-2 c = estimate-taken _ _ _ _ (c .before .before .before .before .before .before .before .before .before .before .before .before .read-papers .ensures) (c .before .before .before .before .before .before .before .before .before .before .enum-told .given .1) _ _ _ _ (c .before .before .before .before .before .before .estimate .ensures) (c .before .before .before .put-estimate .ensures) (c .of-written .ensures)
 
 pub legestran-estimate-spec : {M : Type 1} → statement M
 legestran-estimate-spec =
@@ -60,7 +60,7 @@ legestran-estimate-spec =
     enum-told
     estimate-requires
     put-estimate-requires
-    of-made-requires
+    of-written-requires
     returns
     same-length
     returns-2)

@@ -6,7 +6,7 @@ use Rattle.boundary.proofs.running.legestran_answer.Reads as reads
 use Rattle.boundary.proofs.running.legestran_answer.Lts as lts
 use Rattle.answerer.proofs.answer.answer.Reads as answer-reads
 use Rattle.boundary.proofs.answers.answer_of.Reads as answer-of-reads
-use Rattle.boundary.proofs.answers.of_answered.Reads as of-answered-reads
+use Rattle.boundary.proofs.answers.of_written.Reads as of-written-reads
 use Rattle.envelopes.proofs.reading.read_envelope.Reads as read-envelope-reads
 
 -- src/running.rt:39:9
@@ -30,8 +30,8 @@ answer-requires : tie.Need-answer-requires
 answer-requires c κs = search needs
 
 -- src/running.rt:46:13
-of-answered-requires : tie.Need-of-answered-requires
-of-answered-requires c κs = search needs
+of-written-requires : tie.Need-of-written-requires
+of-written-requires c κs = search needs
 
 -- src/running.rt:35:1
 returns : tie.Need-returns
@@ -43,7 +43,7 @@ same-length c = search needs
 
 -- src/running.rt:35:1
 returns-2 : tie.Need-returns-2
-returns-2 c = answer-taken _ _ _ _ (c .before .before .before .before .before .before .before .before .read-envelope .ensures) (c .before .before .before .before .before .before .enum-told .given .1) _ _ _ (c .before .before .before .answer .ensures) (c .of-answered .ensures)
+returns-2 c = answer-taken _ _ _ _ (c .before .before .before .before .before .before .before .before .read-envelope .ensures) (c .before .before .before .before .before .before .enum-told .given .1) _ _ _ (c .before .before .before .answer .ensures) (c .of-written .ensures)
 
 pub legestran-answer-spec : {M : Type 1} → statement M
 legestran-answer-spec =
@@ -54,7 +54,7 @@ legestran-answer-spec =
     answer-of-requires
     enum-told
     answer-requires
-    of-answered-requires
+    of-written-requires
     returns
     same-length
     returns-2)

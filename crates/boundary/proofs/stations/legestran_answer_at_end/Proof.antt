@@ -6,7 +6,7 @@ use Rattle.boundary.proofs.stations.legestran_answer_at_end.Reads as re
 use Rattle.boundary.proofs.stations.legestran_answer_at_end.Lts as lts
 use Rattle.answerer.proofs.assembly.answer_at_end.Reads as answer-at-end-reads
 use Rattle.boundary.proofs.answers.answer_of.Reads as answer-of-reads
-use Rattle.boundary.proofs.answers.of_answered.Reads as of-answered-reads
+use Rattle.boundary.proofs.answers.of_written.Reads as of-written-reads
 use Rattle.boundary.proofs.given.read_end.Reads as read-end-reads
 
 -- src/ends.rt:222:9
@@ -30,8 +30,8 @@ answer-at-end-requires : tie.Need-answer-at-end-requires
 answer-at-end-requires c κs = search needs
 
 -- src/ends.rt:229:13
-of-answered-requires : tie.Need-of-answered-requires
-of-answered-requires c κs = search needs
+of-written-requires : tie.Need-of-written-requires
+of-written-requires c κs = search needs
 
 -- src/ends.rt:212:1
 returns : tie.Need-returns
@@ -43,7 +43,7 @@ same-length c = search needs
 
 -- src/ends.rt:212:1
 returns-2 : tie.Need-returns-2
-returns-2 c = answer-taken _ _ _ _ _ _ (c .before .before .before .before .before .before .before .before .read-end .ensures) (c .before .before .before .before .before .before .enum-told .given .1) _ _ _ (c .before .before .before .answer-at-end .ensures) (c .of-answered .ensures)
+returns-2 c = answer-taken _ _ _ _ _ _ (c .before .before .before .before .before .before .before .before .read-end .ensures) (c .before .before .before .before .before .before .enum-told .given .1) _ _ _ (c .before .before .before .answer-at-end .ensures) (c .of-written .ensures)
 
 pub legestran-answer-at-end-spec : {M : Type 1} → statement M
 legestran-answer-at-end-spec =
@@ -54,7 +54,7 @@ legestran-answer-at-end-spec =
     answer-of-requires
     enum-told
     answer-at-end-requires
-    of-answered-requires
+    of-written-requires
     returns
     same-length
     returns-2)

@@ -6,7 +6,7 @@ use Rattle.boundary.proofs.stations.legestran_make_rows.Tie as tie
 use Rattle.boundary.proofs.stations.legestran_make_rows.Reads as reads
 use Rattle.boundary.proofs.stations.legestran_make_rows.Lts as lts
 use Rattle.boundary.proofs.answers.answer_of.Reads as answer-of-reads
-use Rattle.boundary.proofs.answers.of_made.Reads as of-made-reads
+use Rattle.boundary.proofs.answers.of_written.Reads as of-written-reads
 use Rattle.boundary.proofs.given.read_end.Reads as read-end-reads
 use Rattle.station.proofs.making.make_rows.Reads as make-rows-reads
 
@@ -31,8 +31,8 @@ make-rows-requires : tie.Need-make-rows-requires
 make-rows-requires c κs = search needs
 
 -- src/ends.rt:149:13
-of-made-requires : tie.Need-of-made-requires
-of-made-requires c κs = search needs
+of-written-requires : tie.Need-of-written-requires
+of-written-requires c κs = search needs
 
 -- src/ends.rt:130:1
 returns : tie.Need-returns
@@ -44,7 +44,7 @@ same-length c = omega arith
 
 -- src/ends.rt:130:1
 returns-2 : tie.Need-returns-2
-returns-2 c = rows-taken _ _ _ _ _ _ _ _ (c .before .before .before .before .before .before .before .before .read-end .ensures) (c .before .before .before .before .before .before .enum-told .given .1) _ _ _ (c .before .before .before .make-rows .ensures) (c .of-made .ensures)
+returns-2 c = rows-taken _ _ _ _ _ _ _ _ (c .before .before .before .before .before .before .before .before .read-end .ensures) (c .before .before .before .before .before .before .enum-told .given .1) _ _ _ (c .before .before .before .make-rows .ensures) (c .of-written .ensures)
 
 pub legestran-make-rows-spec : {M : Type 1} → statement M
 legestran-make-rows-spec =
@@ -55,7 +55,7 @@ legestran-make-rows-spec =
     answer-of-requires
     enum-told
     make-rows-requires
-    of-made-requires
+    of-written-requires
     returns
     same-length
     returns-2)

@@ -6,7 +6,7 @@ use Rattle.boundary.proofs.stations.legestran_make_values.Tie as tie
 use Rattle.boundary.proofs.stations.legestran_make_values.Reads as reads
 use Rattle.boundary.proofs.stations.legestran_make_values.Lts as lts
 use Rattle.boundary.proofs.answers.answer_of.Reads as answer-of-reads
-use Rattle.boundary.proofs.answers.of_made.Reads as of-made-reads
+use Rattle.boundary.proofs.answers.of_written.Reads as of-written-reads
 use Rattle.boundary.proofs.given.read_end.Reads as read-end-reads
 use Rattle.station.proofs.making.make_values.Reads as make-values-reads
 
@@ -31,8 +31,8 @@ make-values-requires : tie.Need-make-values-requires
 make-values-requires c κs = search needs
 
 -- src/ends.rt:124:13
-of-made-requires : tie.Need-of-made-requires
-of-made-requires c κs = search needs
+of-written-requires : tie.Need-of-written-requires
+of-written-requires c κs = search needs
 
 -- src/ends.rt:105:1
 returns : tie.Need-returns
@@ -44,7 +44,7 @@ same-length c = omega arith
 
 -- src/ends.rt:105:1
 returns-2 : tie.Need-returns-2
-returns-2 c = values-taken _ _ _ _ _ _ _ _ (c .before .before .before .before .before .before .before .before .read-end .ensures) (c .before .before .before .before .before .before .enum-told .given .1) _ _ _ (c .before .before .before .make-values .ensures) (c .of-made .ensures)
+returns-2 c = values-taken _ _ _ _ _ _ _ _ (c .before .before .before .before .before .before .before .before .read-end .ensures) (c .before .before .before .before .before .before .enum-told .given .1) _ _ _ (c .before .before .before .make-values .ensures) (c .of-written .ensures)
 
 pub legestran-make-values-spec : {M : Type 1} → statement M
 legestran-make-values-spec =
@@ -55,7 +55,7 @@ legestran-make-values-spec =
     answer-of-requires
     enum-told
     make-values-requires
-    of-made-requires
+    of-written-requires
     returns
     same-length
     returns-2)
