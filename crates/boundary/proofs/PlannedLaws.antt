@@ -20,7 +20,7 @@ use Rattle.papers.specs.Programs.{noStep, programWith, programBytes, readProgra
 use Rattle.papers.specs.declared.programs.Program.{Program}
 use Rattle.papers.proofs.ExactPrograms.{read-complete}
 use Rattle.estimates.specs.Costs.{plainCosts}
-use Rattle.estimates.specs.Estimate.{line, linesOf, estimated}
+use Rattle.estimates.specs.Estimate.{lineSteps, line, linesOf, estimated}
 use Rattle.estimates.specs.Profile.{localProfile}
 use Rattle.estimates.specs.declared.lines.Line.{Line}
 use Rattle.estimates.proofs.EstimateLaws.{lines-length, lines-steps}
@@ -28,7 +28,7 @@ use Rattle.planner.specs.Plan.{planFor, planOf, planned}
 use Rattle.planner.proofs.PlanLaws.{plan-part, plan-legal, plan-site, part-few}
 use Rattle.planner.proofs.DropCodeLaws.{with-steps, with-acceptable}
 use Rattle.boundary.specs.Given.{papersIn}
-use Rattle.boundary.specs.Planning.{lineSteps, programOf, programFor, planChecked, planFrom}
+use Rattle.boundary.specs.Planning.{programOf, programFor, checkPlan, planFrom}
 
 map-alike : {A B : Type 0} (f : A → B) (n : ℕ) (z : A) → map f (replicate n z) ≡ replicate n (f z)
 map-alike f zero z = refl
@@ -82,8 +82,8 @@ module _ (s : List ℕ) (bytes : Bytes s) (e : Envelope) (at : ℕ) (read : read
       ∙ ap (λ (p : Program). good p (length (programBytes (programFor s)))) (ap tidyProgram is-handed ∙ handed-tidy e within ∙ sym is-handed)
 
   -- so plan is refused by 11 alone
-  pub plan-good : planChecked s ≡ good (programFor s) (length (programBytes (programFor s)))
-  unfolding planChecked checkProgram
+  pub plan-good : checkPlan s ≡ good (programFor s) (length (programBytes (programFor s)))
+  unfolding checkPlan checkProgram
   plan-good = rw read plan-back
 
   -- both papers, as every call that takes a program reads them
@@ -96,5 +96,5 @@ module _ (s : List ℕ) (bytes : Bytes s) (e : Envelope) (at : ℕ) (read : read
       → papersIn s (take n (writtenIn out (planFrom s (length out)))) ≡ good (record { envelope = e; program = programFor s }) n
   unfolding planFrom
   plan-left out n w =
-      let (_, _, _, long, same) = written-back (planChecked s) (programBytes (programFor s)) out n w in
+      let (_, _, _, long, same) = written-back (checkPlan s) (programBytes (programFor s)) out n w in
       rw same (plan-papers ∙ ap (good (record { envelope = e; program = programFor s })) (sym long))

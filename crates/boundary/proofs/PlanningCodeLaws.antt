@@ -30,14 +30,14 @@ use Rattle.papers.specs.declared.programs.Program.{Program}
 use Rattle.papers.specs.declared.checks.Papers.{Papers}
 use Rattle.papers.specs.declared.checks.PapersRead.{PapersRead}
 use Rattle.papers.proofs.CheckLaws.{papers-taken, papers-refused}
-use Rattle.estimates.specs.Estimate.{estimateOf}
+use Rattle.estimates.specs.Estimate.{lineSteps, estimateOf}
 use Rattle.planner.specs.Plan.{planOf}
 use Rattle.estimates.specs.declared.lines.Line.{Line}
 use Rattle.planner.specs.declared.plans.Plan.{Plan}
 use Rattle.estimates.specs.declared.lines.Estimate.{Estimate}
 use Rattle.boundary.specs.Answers.{answerWord, writtenWord}
 use Rattle.boundary.specs.Given.{papersIn}
-use Rattle.boundary.specs.Planning.{lineSteps, programOf, programFor, planChecked, planFrom, pairOf, lineWords, estimateWords, unless, estimateWith, estimateFrom}
+use Rattle.boundary.specs.Planning.{programOf, programFor, checkPlan, planFrom, pairOf, lineWords, estimateWords, unless, estimateWith, estimateFrom}
 use Rattle.boundary.proofs.CallLaws.{Gives, gives-refused, gives-taken}
 
 -- ---- the steps of a plan's lines
@@ -80,7 +80,7 @@ program-is s x steps e f = rw f (ap programOf e)
 module _ (s out : List ℕ) (c : EnvelopeRead) (g : c ≡ shownEnvelope (readEnvelope s)) where
   -- the program is written for the envelope as any program is
   as-written : planFrom s (length out) ≡ next (readEnvelope s) (λ e _. writeProgramOf e (programFor s) (length out))
-  unfolding planFrom planChecked writeProgramOf
+  unfolding planFrom checkPlan writeProgramOf
   as-written =
       next-next (readEnvelope s) (λ (e : Envelope) (_ : ℕ). checkProgram e (programFor s))
       (λ (_ : Program) (_ : ℕ). fitted (length out) (programBytes (programFor s)))

@@ -22,7 +22,7 @@ use Rattle.papers.specs.declared.checks.Papers.{Papers}
 use Rattle.ends.specs.Ends.{papersOfEnd}
 use Rattle.ends.specs.declared.ends.End.{End}
 use Rattle.boundary.specs.Answers.{asWord}
-use Rattle.boundary.specs.States.{zeroToSeven, appliedIn, arrivedIn, unclearAt, unclear, endOf, bitOf, appliedWord, stateWords, stateAfter}
+use Rattle.boundary.specs.States.{relationNumbers, appliedIn, arrivedIn, unclearAt, unclear, endOf, bitOf, appliedWord, stateWords, stateAfter}
 use Rattle.boundary.proofs.AnswerLaws.{word-least}
 use Rattle.boundary.proofs.StateLaws.{words-are, words-long, applied-own, applied-behind}
 
@@ -99,8 +99,8 @@ module _ (x : End) (s : List ℕ) (long : 19 ≤ length s) where
         program = x .program;
         site = x .site;
         run = x .run;
-        applied = map (appliedWord (relationCount (x .envelope)) (x .applied) s) zeroToSeven;
-        arrived = map (λ r. getD (x .arrived) r false) zeroToSeven;
+        applied = map (appliedWord (relationCount (x .envelope)) (x .applied) s) relationNumbers;
+        arrived = map (λ r. getD (x .arrived) r false) relationNumbers;
         used = asWord (x .used);
       }
   unfolding endOf appliedIn arrivedIn stateWords
@@ -127,12 +127,12 @@ pub record Sayable (x : End) (s : List ℕ) : Type 0 where
   pub eight : (length (x .applied) ≡ 8) × (length (x .arrived) ≡ 8)
   pub behind : (r : ℕ) → relationCount (x .envelope) ≤ r → r < 8 → getD (x .applied) r 0 ≡ getD s (3 + r) 0
 
-eight-places : zeroToSeven ≡ below 8
+eight-places : relationNumbers ≡ below 8
 unfolding numbersFrom
 eight-places = refl
 
-pub place-getD : {A : Type 0} (f : ℕ → A) (r : ℕ) (d : A) → r < 8 → getD (map f zeroToSeven) r d ≡ f r
-place-getD f r d h = getD-map f zeroToSeven r 0 d h ∙ ap f (ap (λ (l : List ℕ). getD l r 0) eight-places ∙ below-getD 8 r 0 h)
+pub place-getD : {A : Type 0} (f : ℕ → A) (r : ℕ) (d : A) → r < 8 → getD (map f relationNumbers) r d ≡ f r
+place-getD f r d h = getD-map f relationNumbers r 0 d h ∙ ap f (ap (λ (l : List ℕ). getD l r 0) eight-places ∙ below-getD 8 r 0 h)
 
 module _ (x : End) (s : List ℕ) (long : 19 ≤ length s) where
   abbrev own : ℕ → ℕ
@@ -147,20 +147,20 @@ module _ (x : End) (s : List ℕ) (long : 19 ≤ length s) where
       used-same : asWord (x .used) ≡ x .used
       used-same = omega (arith, h .counted)
 
-      applied-same : map own zeroToSeven ≡ x .applied
-      applied-same = ext-getD 0 (map own zeroToSeven) (x .applied) (sym (h .eight .0)) (λ r k.
+      applied-same : map own relationNumbers ≡ x .applied
+      applied-same = ext-getD 0 (map own relationNumbers) (x .applied) (sym (h .eight .0)) (λ r k.
           place-getD own r 0 k ∙ split (relationCount (x .envelope)) r
           (λ l. sym (applied-behind (relationCount (x .envelope)) (x .applied) s r l) ∙ sym (h .behind r l k))
           (λ l. sym (applied-own (relationCount (x .envelope)) (x .applied) s r l)))
 
-      arrived-same : map (λ r. getD (x .arrived) r false) zeroToSeven ≡ x .arrived
-      arrived-same = ext-getD false (map (λ r. getD (x .arrived) r false) zeroToSeven) (x .arrived) (sym (h .eight .1)) (λ r k. place-getD (λ r. getD (x .arrived) r false) r false k)
+      arrived-same : map (λ r. getD (x .arrived) r false) relationNumbers ≡ x .arrived
+      arrived-same = ext-getD false (map (λ r. getD (x .arrived) r false) relationNumbers) (x .arrived) (sym (h .eight .1)) (λ r k. place-getD (λ r. getD (x .arrived) r false) r false k)
 
   end-sayable : endOf (papersOfEnd x) (stateAfter x s) ≡ x → Sayable x s
   end-sayable e =
       let same = sym (read-back x s long) ∙ e in
-      let applied : map own zeroToSeven ≡ x .applied = ap (λ (y : End). y .applied) same in
-      let arrived : map (λ r. getD (x .arrived) r false) zeroToSeven ≡ x .arrived = ap (λ (y : End). y .arrived) same in
+      let applied : map own relationNumbers ≡ x .applied = ap (λ (y : End). y .applied) same in
+      let arrived : map (λ r. getD (x .arrived) r false) relationNumbers ≡ x .arrived = ap (λ (y : End). y .arrived) same in
       let used : asWord (x .used) ≡ x .used = ap (λ (y : End). y .used) same in
       record {
         counted = rw used at (word-least (x .used));

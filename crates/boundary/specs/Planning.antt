@@ -13,7 +13,7 @@ use Rattle.envelopes.specs.Envelope.{readEnvelope}
 use Rattle.papers.specs.Programs.{programBytes, checkProgram}
 use Rattle.papers.specs.Checks.{papersOf}
 use Rattle.papers.specs.declared.programs.Program.{Program}
-use Rattle.estimates.specs.Estimate.{estimateOf}
+use Rattle.estimates.specs.Estimate.{lineSteps, estimateOf}
 use Rattle.planner.specs.Plan.{planOf}
 use Rattle.estimates.specs.declared.lines.Line.{Line}
 use Rattle.planner.specs.declared.plans.Plan.{Plan}
@@ -23,9 +23,6 @@ use Rattle.boundary.specs.Given.{papersIn}
 
 -- ---- the program handed out
 
-unfoldable pub lineSteps : List Line → List Step
-lineSteps lines = map (λ (l : Line). l .step) lines
-
 unfoldable pub programOf : Plan → Program
 programOf x = record { site = x .site; count = x .count; steps = lineSteps (x .lines) }
 
@@ -33,11 +30,11 @@ unfoldable pub programFor : List ℕ → Program
 programFor s = programOf (planOf (readEnvelope s))
 
 -- checked before it is written, as any program is
-unfoldable pub planChecked : List ℕ → Outcome Program
-planChecked s = next (readEnvelope s) (λ e _. checkProgram e (programFor s))
+unfoldable pub checkPlan : List ℕ → Outcome Program
+checkPlan s = next (readEnvelope s) (λ e _. checkProgram e (programFor s))
 
 unfoldable pub planFrom : List ℕ → ℕ → Outcome (List ℕ)
-planFrom s room = next (planChecked s) (λ _ _. fitted room (programBytes (programFor s)))
+planFrom s room = next (checkPlan s) (λ _ _. fitted room (programBytes (programFor s)))
 
 -- ---- the estimate
 

@@ -32,17 +32,17 @@ arrivedAt = 11
 abbrev pub stateLength : ℕ
 stateLength = 19
 
--- the numbers of the eight places for relations
-abbrev pub zeroToSeven : List ℕ
-zeroToSeven = 0 ∷ 1 ∷ 2 ∷ 3 ∷ 4 ∷ 5 ∷ 6 ∷ 7 ∷ []
+-- the numbers that a relation can have: below 8, written out so that it computes
+abbrev pub relationNumbers : List ℕ
+relationNumbers = 0 ∷ 1 ∷ 2 ∷ 3 ∷ 4 ∷ 5 ∷ 6 ∷ 7 ∷ []
 
 -- ---- read
 
 unfoldable pub appliedIn : List ℕ → List ℕ
-appliedIn s = map (λ r. getD s (appliedAt + r) 0) zeroToSeven
+appliedIn s = map (λ r. getD s (appliedAt + r) 0) relationNumbers
 
 unfoldable pub arrivedIn : List ℕ → List Bool
-arrivedIn s = map (λ r. eqb (getD s (arrivedAt + r) 0) 1) zeroToSeven
+arrivedIn s = map (λ r. eqb (getD s (arrivedAt + r) 0) 1) relationNumbers
 
 -- an arrived word that is neither 0 nor 1; one of the eight
 unfoldable pub unclearAt : List ℕ → ℕ → Bool
@@ -78,8 +78,8 @@ stateWords x s =
     x .site
     ∷ x .run
     ∷ asWord (x .used)
-    ∷ map (appliedWord (relationCount (x .envelope)) (x .applied) s) zeroToSeven
-    ++ map (λ r. bitOf (getD (x .arrived) r false)) zeroToSeven
+    ∷ map (appliedWord (relationCount (x .envelope)) (x .applied) s) relationNumbers
+    ++ map (λ r. bitOf (getD (x .arrived) r false)) relationNumbers
 
 -- the state afterwards
 unfoldable pub stateAfter : End → List ℕ → List ℕ

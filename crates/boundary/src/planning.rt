@@ -13,9 +13,9 @@ ghost use lib.Seq.{sets};
 ghost use Prim.Native.Nat.{_+_, _≤_};
 ghost use Rattle.ground.specs.Lists.{each};
 ghost use Rattle.fields.specs.Puts.{writtenOf, writtenIn, Puts};
+ghost use Rattle.estimates.specs.Estimate.{lineSteps};
 ghost use Rattle.boundary.specs.Answers.{writtenWord};
 ghost use Rattle.boundary.specs.Planning.{
-  lineSteps,
   programFor,
   planFrom,
   pairOf,

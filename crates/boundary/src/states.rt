@@ -90,7 +90,7 @@ fn applied_word(relations: usize, applied: [u32; 8], state: &[u32], relation: us
     }
 }
 
-fn words_of(end: End, state: &[u32]) -> [u32; 19]
+fn state_words(end: End, state: &[u32]) -> [u32; 19]
     requires { ⌜ stateLength ≤ length (now state) ⌝ }
     ensures { λ r. ⌜ r ≡ stateWords end (now (state .entry)) ⌝ }
 {
@@ -126,7 +126,7 @@ pub(crate) fn put_state(end: End, state: &mut [u32])
     requires { ⌜ stateLength ≤ length (now state) ⌝ }
     ensures { λ r. ⌜ now (state .exit) ≡ stateAfter end (now (state .entry)) ⌝ }
 {
-    let words = words_of(end, state);
+    let words = state_words(end, state);
     let mut i: usize = 0;
     while i < LENGTH {
         state[i] = words[i];

@@ -28,9 +28,9 @@ use Rattle.ends.specs.declared.messages.About.the-variants.{Step, Rows, Nothing
 use Rattle.ends.specs.declared.ends.End.{End}
 use Rattle.ends.proofs.SoundLaws.{sound-number}
 use Rattle.answerer.specs.Answer.{fitted, answerChecked, answerOutcome}
-use Rattle.answerer.specs.Stores.{messageLength, metBy, messageAt, dueIn, layStored, laysFrom, sourceHeld, sourceOf, heldBy}
+use Rattle.answerer.specs.Stores.{rowMessageLength, metBy, messageAt, dueIn, layStored, laysFrom, sourceHeld, sourceOf, heldBy}
 use Rattle.answerer.specs.Sources.{noLay}
-use Rattle.answerer.specs.Assembly.{firstAwaited, answerOver, assembled, assembledWith, assembledOutcome}
+use Rattle.answerer.specs.Assembly.{firstAwaited, sourceAnswer, assembled, assembledWith, assembledOutcome}
 use Rattle.answerer.specs.declared.sources.Lay.{Lay}
 use Rattle.answerer.specs.declared.sources.Source.{Source}
 use Rattle.demands.specs.DemandOne.{ownPapers}
@@ -82,7 +82,7 @@ module _ (e : Envelope) (run : ℕ) (words : List ℕ) where
   unfolding metBy
   met-number due m at (Rows r) n u h =
       one-number notSound
-      (test (not (getD due r false)) notSound 0 ∷ test (not (counted (length (keptColumns e r)) (take (messageLength e r m) m))) notSound 0 ∷ [])
+      (test (not (getD due r false)) notSound 0 ∷ test (not (counted (length (keptColumns e r)) (take (rowMessageLength e r m) m))) notSound 0 ∷ [])
       (good r _) (refl, (refl, tt)) (λ n u z. absurd (good-bad r _ n u z)) n u h
   met-number due m at (Step k) n u h = bad-number notSound 0 n u h
   met-number due m at Nothing n u h = bad-number notSound 0 n u h
@@ -127,11 +127,11 @@ assembled-number : (e : Envelope) (arrived : List Bool) (s : Source) (words out 
 unfolding assembled
 assembled-number e arrived s words out n u h =
     go
-    (judged-number (test (ltb (firstAwaited e arrived) (relationCount e)) waiting (firstAwaited e arrived) ∷ []) (fitted (answerOver e s words) out) n u h)
+    (judged-number (test (ltb (firstAwaited e arrived) (relationCount e)) waiting (firstAwaited e arrived) ∷ []) (fitted (sourceAnswer e s words) out) n u h)
   where
-    go : List·Memᴰ n (waiting ∷ []) ⊎ (fitted (answerOver e s words) out ≡ bad n u) → List·Memᴰ n (waiting ∷ tooShort ∷ [])
+    go : List·Memᴰ n (waiting ∷ []) ⊎ (fitted (sourceAnswer e s words) out ≡ bad n u) → List·Memᴰ n (waiting ∷ tooShort ∷ [])
     go (inl m) = Memᴰ·append-left (tooShort ∷ []) m
-    go (inr k) = List·Memᴰ·tail (fitted-number (answerOver e s words) out n u k)
+    go (inr k) = List·Memᴰ·tail (fitted-number (sourceAnswer e s words) out n u k)
 
 with-number : (q : Papers) (x : End) (store out : List ℕ) (n u : ℕ) → assembledWith q x store out ≡ bad n u
     → List·Memᴰ n (notOurs ∷ notSound ∷ waiting ∷ tooShort ∷ [])

@@ -16,7 +16,7 @@ use Rattle.ends.specs.Ends.{hasArrived}
 use Rattle.station.specs.Making.{sentRows}
 use Rattle.station.specs.Receiving.{Held}
 use Rattle.answerer.specs.Stores.{sourceHeld, heldBy, SoundRows}
-use Rattle.answerer.specs.Assembly.{answerOver, assembledOutcome}
+use Rattle.answerer.specs.Assembly.{sourceAnswer, assembledOutcome}
 use Rattle.answerer.specs.declared.sources.Source.{Source}
 use Rattle.answerer.proofs.StoreLaws.{held-lies}
 use Rattle.answerer.proofs.AssemblyLaws.{Assembles, assembly-waits, assembly-answers}
@@ -85,6 +85,6 @@ module _ (c : Crew) (w : Allowed c) where
         let (y, u, is, answer) =
         delivered-answer e within (c .run) (c .whole) (x .end .arrived) held
         (held-map e (held-delivered s low) (x .end .arrived) held (s-at .stored)) all in
-        let same : answerOver e y (heldBy (x .end) (lentStore x behind)) ≡ answerWords e (c .whole) =
-        ap (answerOver e y) (lent-same c (s .made) (p .site) x s-at behind []) ∙ answer in
+        let same : sourceAnswer e y (heldBy (x .end) (lentStore x behind)) ≡ answerWords e (c .whole) =
+        ap (sourceAnswer e y) (lent-same c (s .made) (p .site) x s-at behind []) ∙ answer in
         assembly-answers (x .end) (lentStore x behind) out (c .papers) y (assembles y u is) all (rw same room) ∙ ap (λ (l : List ℕ). good l 0) same

@@ -62,7 +62,7 @@ use Rattle.station.specs.Calls.{leaves}
 use Rattle.station.specs.Making.{fitted, valuesWith, makeValuesOf, sentRows, rowsWith, makeRowsOf}
 use Rattle.station.specs.Opening.{openWith, openOf}
 use Rattle.station.specs.Receiving.{appliedTo, withApplied, withArrived, valuesTaken, rowsTaken, taken as taken-of, receiveWith, receiveOf}
-use Rattle.answerer.specs.Assembly.{firstAwaited, answerOver, assembled, assembledWith, assembledOutcome}
+use Rattle.answerer.specs.Assembly.{firstAwaited, sourceAnswer, assembled, assembledWith, assembledOutcome}
 use Rattle.answerer.specs.Sources.{wordFrom, rowFrom, tableFrom, tablesBehind}
 use Rattle.answerer.specs.Stores.{standsIn, layStored, metBy, messageAt, dueIn, laysFrom, sourceHeld, sourceOf}
 
@@ -102,12 +102,10 @@ pub computed : (finish .made
     × (finish .at 1 .marks ≡ 1 ∷ 1 ∷ 0 ∷ 9 ∷ []) × (finish .at 2 .marks ≡ 1 ∷ 1 ∷ 1 ∷ 0 ∷ [])
     × (assembledOutcome (answering crew finish .end) (lentStore (answering crew finish) []) (replicate 6 0)
     ≡ good (11 ∷ 5 ∷ 12 ∷ 7 ∷ 12 ∷ 7 ∷ []) 0)
-unfolding littleEnd bytesOf padded numbersFrom numbered insert rising firstFrom numberAt numberThat marked markAt versionAt headOf domainOf selectionAt joined joinAt clauseAt kindBytes samePlace placeAt placeBytes columnsOf columnAt columnBytes columnsThen relationAt relationBytes names kept keptColumns firstBare sizesOf relationsOf clausesOf targetsOf columnsIn withVersion withSizes withRelations withClauses withTargets siteOf isAt holds filled listInto ended targetsThen clausesThen relationsThen sizesThen envelopeFrom envelopeBytes checkEnvelope constantsOf selectionsBy equalitiesBy rowsIn tablesIn tablesOf meetsAll answerOn answerRows edges onPath isPlace legalBy stepBytes papersOf stepsOf stepAt endedProgram stepsThen programBy readProgram programBytes checkProgram countIn wordsBefore rowsBefore firstWord rowsOver marksOver rowsAt marksAt isRising keptOf keptRows shaped valuesOver valuesOf risingValues passesBy passes openingMark openedAt opened openedIn sieved sievedOver reducedBy overAt overApplied soundEnd usable startOf valueMessage rowMessage aboutOf counted soundValues rowsOf stepOf reduces reducing stepsBefore isMissing firstMissing missingIn leaves fitted valuesWith makeValuesOf sentRows rowsWith makeRowsOf openWith openOf appliedTo withApplied withArrived valuesTaken rowsTaken taken-of receiveWith receiveOf firstAwaited answerOver assembled assembledWith assembledOutcome wordFrom rowFrom tableFrom tablesBehind standsIn layStored metBy messageAt dueIn laysFrom sourceHeld sourceOf answerFits siteOpened withMade withTaken after inTurn inOrder
+unfolding littleEnd bytesOf padded numbersFrom numbered insert rising firstFrom numberAt numberThat marked markAt versionAt headOf domainOf selectionAt joined joinAt clauseAt kindBytes samePlace placeAt placeBytes columnsOf columnAt columnBytes columnsThen relationAt relationBytes names kept keptColumns firstBare sizesOf relationsOf clausesOf targetsOf columnsIn withVersion withSizes withRelations withClauses withTargets siteOf isAt holds filled listInto ended targetsThen clausesThen relationsThen sizesThen envelopeFrom envelopeBytes checkEnvelope constantsOf selectionsBy equalitiesBy rowsIn tablesIn tablesOf meetsAll answerOn answerRows edges onPath isPlace legalBy stepBytes papersOf stepsOf stepAt endedProgram stepsThen programBy readProgram programBytes checkProgram countIn wordsBefore rowsBefore firstWord rowsOver marksOver rowsAt marksAt isRising keptOf keptRows shaped valuesOver valuesOf risingValues passesBy passes openingMark openedAt opened openedIn sieved sievedOver reducedBy overAt overApplied soundEnd usable startOf valueMessage rowMessage aboutOf counted soundValues rowsOf stepOf reduces reducing stepsBefore isMissing firstMissing missingIn leaves fitted valuesWith makeValuesOf sentRows rowsWith makeRowsOf openWith openOf appliedTo withApplied withArrived valuesTaken rowsTaken taken-of receiveWith receiveOf firstAwaited sourceAnswer assembled assembledWith assembledOutcome wordFrom rowFrom tableFrom tablesBehind standsIn layStored metBy messageAt dueIn laysFrom sourceHeld sourceOf answerFits siteOpened withMade withTaken after inTurn inOrder
 computed = (refl, refl, refl, refl)
 
 -- ---- the crew is one that demand 3 speaks of
-
-
 
 small : (a : Place) → a .relation < 256 → a .column < 256 → PlaceFits a
 small a h k = record { relation = h; column = k }

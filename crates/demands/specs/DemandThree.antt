@@ -3,7 +3,7 @@
 -- arrives that the program, run in order in one place, would have removed." What is promised of a state that a crew comes to.
 use Rattle.demands.specs.Words.{ℕ, _+_, _≤_, _<_, _≡_, true, false, List, List·Memᴰ, length, take, replicate, good, bad, relationCount, isAt, Envelope, answerWords, stepsOf, Program}
 use Rattle.demands.specs.Words.{rowCount, valuesOf, openedIn, steppedAll, runMarks, SameRows, FewerRows, FewerValues, Covers, Holds, stepCount, stepOf, stepsBefore, appliedOf, hasArrived}
-use Rattle.demands.specs.Words.{rowsFrom, valueMessage, rowMessage, secondOf, sentRows, Held, SoundRows, OneOfEach, assembledOutcome}
+use Rattle.demands.specs.Words.{valueMessage, rowMessage, secondOf, sentRows, Held, SoundRows, OneOfEach, assembledOutcome}
 use Rattle.demands.specs.Link.{Crew, Allowed, State, start, Event, Possible, lentStore, after, afterAll, Follows}
 use Rattle.demands.specs.Link.Event.{comes}
 
@@ -62,10 +62,10 @@ module _ (c : Crew) where
     pub held : OneOfEach e (λ r m. UpperMade m × SoundRows e (c .run) r m) (answering s .end .arrived) (take (answering s .end .used) (answering s .store))
     -- a relation's row message that comes to it, and for which there is room, has arrived then, and stays so; of every run 16,400
     -- words are room enough
-    pub arrives : (r : ℕ) → r < relationCount e → (m behind : List ℕ) → List·Memᴰ m (s .made) → secondOf m ≡ rowsFrom + r
+    pub arrives : (r : ℕ) → r < relationCount e → (m behind : List ℕ) → List·Memᴰ m (s .made) → secondOf m ≡ 256 + r
         → answering s .end .used + length m ≤ length (lentStore (answering s) behind)
         → hasArrived (answering (after c s (comes (p .site) m behind)) .end) r ≡ true
-    pub suffices : (r : ℕ) → r < relationCount e → hasArrived (answering s .end) r ≡ false → (m : List ℕ) → List·Memᴰ m (s .made) → secondOf m ≡ rowsFrom + r
+    pub suffices : (r : ℕ) → r < relationCount e → hasArrived (answering s .end) r ≡ false → (m : List ℕ) → List·Memᴰ m (s .made) → secondOf m ≡ 256 + r
         → answering s .end .used + length m ≤ 16400
     pub stays : (x : Event) → Possible c s x → (r : ℕ) → hasArrived (answering s .end) r ≡ true → hasArrived (answering (after c s x) .end) r ≡ true
 

@@ -24,7 +24,7 @@ pub use Rattle.semijoin.specs.{Local.passes, Local.Passing, Local.openedIn, Loc
 pub use Rattle.semijoin.specs.{Run.runOutcome, Promise.FewerRows, Promise.FewerValues, Promise.Covers}
 pub use Rattle.semijoin.specs.{Promise.Holds}
 pub use Rattle.ends.specs.{Reducing.stepCount, Reducing.stepOf, Reducing.stepsBefore, Ends.Marked, Ends.noEnd, Ends.appliedOf, Ends.hasArrived, Ends.soundEnd, Ends.usable}
-pub use Rattle.ends.specs.{Messages.rowsFrom, Messages.valueMessage, Messages.rowMessage, Messages.secondOf, declared.ends.End.End}
+pub use Rattle.ends.specs.{Messages.valueMessage, Messages.rowMessage, Messages.secondOf, declared.ends.End.End}
 pub use Rattle.station.specs.{Calls.leaves, Opening.openOf, Opening.openedMarks, Making.makeValuesOf, Making.makeRowsOf, Making.madeIn, Making.sentRows, Receiving.Held}
 pub use Rattle.station.specs.{Receiving.receiveOf, Receiving.refusedBy, Receiving.shownReceived, Receiving.receivedMarks, Receiving.receivedStore}
 pub use Rattle.answerer.specs.{Answer.answerOutcome, Answer.answeredIn, Stores.SoundRows, Stores.OneOfEach, Assembly.assembledOutcome}

@@ -47,7 +47,7 @@ module _ (k : Costs) (e : Envelope) where
   lines-length p (s ∷ ss) = ap suc (lines-length (afterStep e p s) ss)
 
   pub lines-steps : (p : Profile) (ss : List Step) → lineSteps (linesOf k e p ss) ≡ ss
-  unfolding linesOf
+  unfolding linesOf lineSteps
   lines-steps p [] = refl
   lines-steps p (s ∷ ss) = ap (λ (l : List Step). s ∷ l) (lines-steps (afterStep e p s) ss)
 

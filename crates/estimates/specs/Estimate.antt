@@ -46,7 +46,7 @@ linesOf k e p [] = []
 linesOf k e p (s ∷ ss) = line s (benefit e p s) (stepCost k e p s) ∷ linesOf k e (afterStep e p s) ss
 
 -- the steps and the costs in some lines
-abbrev pub lineSteps : List Line → List Step
+unfoldable pub lineSteps : List Line → List Step
 lineSteps lines = map (λ (l : Line). l .step) lines
 
 abbrev pub costsIn : List Line → List ℕ

@@ -1,7 +1,7 @@
 use mathlib.Core.Path.{refl}
 use Prim.Native.Nat.{_-_}
 use Rattle.ground.proofs.PuttingLaws.{Copying, copying-start}
-use Rattle.boundary.specs.Planning.{lineSteps}
+use Rattle.estimates.specs.Estimate.{lineSteps}
 use Rattle.boundary.proofs.PlanningCodeLaws.{steps-start, steps-more, steps-done}
 use borrow.Author.Needs.{needs}
 use native.Mathlib.Omega.{arith}

@@ -7,7 +7,7 @@ use Rattle.boundary.proofs.states.put_state.Statement.{statement}
 use Rattle.boundary.proofs.states.put_state.Tie as tie
 use Rattle.boundary.proofs.states.put_state.Reads as reads
 use Rattle.boundary.proofs.states.put_state.Lts as lts
-use Rattle.boundary.proofs.states.words_of.Reads as words-of-reads
+use Rattle.boundary.proofs.states.state_words.Reads as state-words-reads
 
 abbrev Inv-loop : tie.InvT-loop
 Inv-loop state₀ words i₀ state i = Copying words state₀ 0 19 i i state
@@ -16,8 +16,8 @@ abbrev μ-loop : tie.MeasureT-loop
 μ-loop state₀ words i₀ state i = 19 - i
 
 -- src/states.rt:109:17
-words-of-requires : tie.Need-words-of-requires Inv-loop μ-loop
-words-of-requires c κs = search needs
+state-words-requires : tie.Need-words-of-requires Inv-loop μ-loop
+state-words-requires c κs = search needs
 
 -- src/states.rt:111:5
 loop-holds : tie.Need-loop-holds Inv-loop μ-loop
@@ -65,7 +65,7 @@ put-state-spec =
     (tie.spec
     Inv-loop
     μ-loop
-    words-of-requires
+    state-words-requires
     loop-holds
     mul-state
     array-read-state

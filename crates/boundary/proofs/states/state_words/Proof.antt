@@ -1,9 +1,9 @@
 use Rattle.boundary.proofs.StateLaws.{words-are}
 use borrow.Author.Needs.{needs}
-use Rattle.boundary.proofs.states.words_of.Statement.{statement}
-use Rattle.boundary.proofs.states.words_of.Tie as tie
-use Rattle.boundary.proofs.states.words_of.Reads as reads
-use Rattle.boundary.proofs.states.words_of.Lts as lts
+use Rattle.boundary.proofs.states.state_words.Statement.{statement}
+use Rattle.boundary.proofs.states.state_words.Tie as tie
+use Rattle.boundary.proofs.states.state_words.Reads as reads
+use Rattle.boundary.proofs.states.state_words.Lts as lts
 use Rattle.boundary.proofs.answers.as_word.Reads as as-word-reads
 use Rattle.boundary.proofs.states.applied_word.Reads as applied-word-reads
 use Rattle.boundary.proofs.states.bit_of.Reads as bit-of-reads
@@ -117,8 +117,8 @@ bit-of-requires-8 c κs = search needs
 returns : tie.Need-returns
 returns c = words-are _ _ _ (c .before .before .before .before .before .before .before .before .before .before .before .before .before .before .before .before .before .before .before .in-use .ensures) _ _ _ _ _ _ _ _ _ (c .before .before .before .before .before .before .before .before .before .before .before .before .before .before .before .before .as-word .ensures) (c .before .before .before .before .before .before .before .before .before .before .before .before .before .before .before .applied-word .ensures) (c .before .before .before .before .before .before .before .before .before .before .before .before .before .before .applied-word2 .ensures) (c .before .before .before .before .before .before .before .before .before .before .before .before .before .applied-word3 .ensures) (c .before .before .before .before .before .before .before .before .before .before .before .before .applied-word4 .ensures) (c .before .before .before .before .before .before .before .before .before .before .before .applied-word5 .ensures) (c .before .before .before .before .before .before .before .before .before .before .applied-word6 .ensures) (c .before .before .before .before .before .before .before .before .before .applied-word7 .ensures) (c .before .before .before .before .before .before .before .before .applied-word8 .ensures) _ _ _ _ _ _ _ _ (c .before .before .before .before .before .before .before .bit-of .ensures) (c .before .before .before .before .before .before .bit-of2 .ensures) (c .before .before .before .before .before .bit-of3 .ensures) (c .before .before .before .before .bit-of4 .ensures) (c .before .before .before .bit-of5 .ensures) (c .before .before .bit-of6 .ensures) (c .before .bit-of7 .ensures) (c .bit-of8 .ensures)
 
-pub words-of-spec : {M : Type 1} → statement M
-words-of-spec =
+pub state-words-spec : {M : Type 1} → statement M
+state-words-spec =
     tie.close
     (tie.spec
     in-use-requires
