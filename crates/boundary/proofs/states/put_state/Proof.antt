@@ -16,7 +16,7 @@ abbrev μ-loop : tie.MeasureT-loop
 μ-loop state₀ words i₀ state i = 19 - i
 
 -- src/states.rt:109:17
-state-words-requires : tie.Need-words-of-requires Inv-loop μ-loop
+state-words-requires : tie.Need-state-words-requires Inv-loop μ-loop
 state-words-requires c κs = search needs
 
 -- src/states.rt:111:5
