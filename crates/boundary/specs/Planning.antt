@@ -1,7 +1,7 @@
 -- The calls that plan and estimate: the program handed out for an envelope, written; and what a program is expected to cost, in
 -- words: benefit and cost of each step, then assembly and total, each number as two words, the low one first.
 use Prim.Native.Nat.{ℕ, _%_, _/_}
-use mathlib.Core.List.{List, [], _∷_, _++_, map}
+use mathlib.Core.List.{List, [], _∷_, _++_}
 use lib.ListN.{take}
 use Rattle.ground.specs.Lists.{each}
 use Rattle.ground.specs.Outcome.{Outcome, next}
@@ -18,7 +18,6 @@ use Rattle.planner.specs.Plan.{planOf}
 use Rattle.estimates.specs.declared.lines.Line.{Line}
 use Rattle.planner.specs.declared.plans.Plan.{Plan}
 use Rattle.estimates.specs.declared.lines.Estimate.{Estimate}
-use Rattle.paths.specs.declared.steps.Step.{Step}
 use Rattle.boundary.specs.Given.{papersIn}
 
 -- ---- the program handed out

@@ -8,8 +8,6 @@ use borrow.Author.Tests.{lt-ltb, le-ltb}
 use lib.ListN.{length, take, set, replicate}
 use Rattle.ground.specs.Lists.{any, empty, filter, below}
 use Rattle.ground.specs.Searching.{firstFrom}
-use Rattle.ground.proofs.ListLaws.{filter-length}
-use Rattle.ground.proofs.NumbersLaws.{below-length}
 use Rattle.ground.proofs.SearchingLaws.{Looking, first-more, first-found, first-none}
 use Rattle.ground.proofs.CollectingLaws.{Collecting, Picking, picking-below, picking-count, number-yes, number-no, number-done}
 use Rattle.entries.specs.Places.{place, samePlace}
@@ -22,7 +20,6 @@ use Rattle.entries.specs.declared.clauses.ClauseKind.the-variants.{Selection, J
 use Rattle.contents.specs.declared.kept.Columns.{Columns}
 use Rattle.contents.specs.declared.kept.Bare.the-variants.{Lowest, None}
 use Rattle.contents.specs.declared.envelope.Envelope.{Envelope}
-use Rattle.contents.proofs.PartLaws.{columns-few}
 
 -- ---- a clause that names a column
 

@@ -14,6 +14,8 @@ use Rattle.ground.proofs.EveryLaws.{every-at}
 use Rattle.ground.proofs.OutcomeLaws.{good-bad, next-bad, turned-bad}
 use Rattle.ground.proofs.RefusingLaws.{judged-number}
 use Rattle.fields.specs.Refusals.{beyondLimit, wrongShape, tooShort, waiting, notOurs, notSound}
+use Rattle.fields.specs.Puts.{fitted}
+use Rattle.fields.proofs.PutLaws.{fitted-bad}
 use Rattle.contents.specs.Parts.{relationCount}
 use Rattle.contents.specs.Kept.{keptColumns}
 use Rattle.contents.specs.declared.envelope.Envelope.{Envelope}
@@ -27,7 +29,7 @@ use Rattle.ends.specs.declared.messages.About.{About}
 use Rattle.ends.specs.declared.messages.About.the-variants.{Step, Rows, Nothing}
 use Rattle.ends.specs.declared.ends.End.{End}
 use Rattle.ends.proofs.SoundLaws.{sound-number}
-use Rattle.answerer.specs.Answer.{fitted, answerChecked, answerOutcome}
+use Rattle.answerer.specs.Answer.{answerChecked, answerOutcome}
 use Rattle.answerer.specs.Stores.{rowMessageLength, metBy, messageAt, dueIn, layStored, laysFrom, sourceHeld, sourceOf, heldBy}
 use Rattle.answerer.specs.Sources.{noLay}
 use Rattle.answerer.specs.Assembly.{firstAwaited, sourceAnswer, assembled, assembledWith, assembledOutcome}
@@ -37,21 +39,13 @@ use Rattle.demands.specs.DemandOne.{ownPapers}
 
 -- ---- answering on tables
 
-fitted-number : (words out : List ℕ) (n u : ℕ) → fitted words out ≡ bad n u → List·Memᴰ n (tooShort ∷ [])
-unfolding fitted
-fitted-number words out n u h = go (judged-number (test (ltb (length out) (length words)) tooShort 0 ∷ []) (good words 0) n u h)
-  where
-    go : List·Memᴰ n (tooShort ∷ []) ⊎ (good words 0 ≡ bad n u) → List·Memᴰ n (tooShort ∷ [])
-    go (inl m) = m
-    go (inr k) = absurd (good-bad words 0 n u k)
-
 checked-number : (e : Envelope) (words out : List ℕ) (n u : ℕ) → answerChecked e words out ≡ bad n u → List·Memᴰ n (wrongShape ∷ tooShort ∷ [])
 unfolding answerChecked
-checked-number e words out n u h = go (judged-number (test (not (shaped e words)) wrongShape 0 ∷ []) (fitted (answerWords e words) out) n u h)
+checked-number e words out n u h = go (judged-number (test (not (shaped e words)) wrongShape 0 ∷ []) (fitted (length out) (answerWords e words)) n u h)
   where
-    go : List·Memᴰ n (wrongShape ∷ []) ⊎ (fitted (answerWords e words) out ≡ bad n u) → List·Memᴰ n (wrongShape ∷ tooShort ∷ [])
+    go : List·Memᴰ n (wrongShape ∷ []) ⊎ (fitted (length out) (answerWords e words) ≡ bad n u) → List·Memᴰ n (wrongShape ∷ tooShort ∷ [])
     go (inl m) = Memᴰ·append-left (tooShort ∷ []) m
-    go (inr k) = List·Memᴰ·tail (fitted-number (answerWords e words) out n u k)
+    go (inr k) = List·Memᴰ·tail (fitted-bad (length out) (answerWords e words) n u k .0)
 
 pub tables-number : (e : Envelope) (words out : List ℕ) (n u : ℕ) → answerOutcome e words out ≡ bad n u
     → (checkEnvelope e ≡ bad n u) ⊎ List·Memᴰ n (wrongShape ∷ tooShort ∷ [])
@@ -127,11 +121,11 @@ assembled-number : (e : Envelope) (arrived : List Bool) (s : Source) (words out 
 unfolding assembled
 assembled-number e arrived s words out n u h =
     go
-    (judged-number (test (ltb (firstAwaited e arrived) (relationCount e)) waiting (firstAwaited e arrived) ∷ []) (fitted (sourceAnswer e s words) out) n u h)
+    (judged-number (test (ltb (firstAwaited e arrived) (relationCount e)) waiting (firstAwaited e arrived) ∷ []) (fitted (length out) (sourceAnswer e s words)) n u h)
   where
-    go : List·Memᴰ n (waiting ∷ []) ⊎ (fitted (sourceAnswer e s words) out ≡ bad n u) → List·Memᴰ n (waiting ∷ tooShort ∷ [])
+    go : List·Memᴰ n (waiting ∷ []) ⊎ (fitted (length out) (sourceAnswer e s words) ≡ bad n u) → List·Memᴰ n (waiting ∷ tooShort ∷ [])
     go (inl m) = Memᴰ·append-left (tooShort ∷ []) m
-    go (inr k) = List·Memᴰ·tail (fitted-number (sourceAnswer e s words) out n u k)
+    go (inr k) = List·Memᴰ·tail (fitted-bad (length out) (sourceAnswer e s words) n u k .0)
 
 with-number : (q : Papers) (x : End) (store out : List ℕ) (n u : ℕ) → assembledWith q x store out ≡ bad n u
     → List·Memᴰ n (notOurs ∷ notSound ∷ waiting ∷ tooShort ∷ [])

@@ -80,11 +80,11 @@ module _ (c : Crew) (w : Allowed c) where
         assembly-waits (x .end) (lentStore x behind) out (c .papers) y (assembles y u is) r h missing before
 
     pub answers : Lower c s → ((r : ℕ) → r < relationCount e → hasArrived (x .end) r ≡ true) → length (answerWords e (c .whole)) ≤ length out
-        → assembledOutcome (x .end) (lentStore x behind) out ≡ good (answerWords e (c .whole)) 0
+        → assembledOutcome (x .end) (lentStore x behind) out ≡ good (answerWords e (c .whole)) (length (answerWords e (c .whole)))
     answers low all room =
         let (y, u, is, answer) =
         delivered-answer e within (c .run) (c .whole) (x .end .arrived) held
         (held-map e (held-delivered s low) (x .end .arrived) held (s-at .stored)) all in
         let same : sourceAnswer e y (heldBy (x .end) (lentStore x behind)) ≡ answerWords e (c .whole) =
         ap (sourceAnswer e y) (lent-same c (s .made) (p .site) x s-at behind []) ∙ answer in
-        assembly-answers (x .end) (lentStore x behind) out (c .papers) y (assembles y u is) all (rw same room) ∙ ap (λ (l : List ℕ). good l 0) same
+        assembly-answers (x .end) (lentStore x behind) out (c .papers) y (assembles y u is) all (rw same room) ∙ ap (λ (l : List ℕ). good l (length l)) same

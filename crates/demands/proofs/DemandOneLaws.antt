@@ -1,57 +1,42 @@
 -- Demand 1 holds: each call's refusals have the numbers that 01 lists for it, and leave everything as it was.
-use mathlib.Core.Path.{_≡_, ap, _∙_}
+use mathlib.Core.Path.{_≡_}
 use mathlib.Core.Bool.{Bool, true, false}
-use mathlib.Core.List.{List, [], _∷_, _++_, map, List·Memᴰ, List·Memᴰ·head, Memᴰ·append-left, Memᴰ·append-right}
+use mathlib.Core.List.{List, [], _∷_, _++_, map, List·Memᴰ, Memᴰ·append-left, Memᴰ·append-right}
 use mathlib.Core.Logic.{_⊎_, inl, inr}
 use Prim.Native.Nat.{ℕ}
 use lib.ListN.{length}
+use lib.Seq.{sets}
 use Rattle.ground.specs.Outcome.{Outcome}
 use Rattle.ground.specs.Outcome.Outcome.{good, bad}
 use Rattle.ground.specs.Refusing.{Test, judgement}
 use Rattle.ground.specs.declared.Verdict.the-variants.{Refused}
-use Rattle.ground.proofs.OutcomeLaws.{never, good-bad, refused-is}
+use Rattle.ground.proofs.OutcomeLaws.{never, good-bad, refused-is, leaves-refused}
 use Rattle.ground.proofs.RefusingLaws.{judged-number}
 use Rattle.fields.specs.Refusals.{tooShort, waiting, notOurs}
 use Rattle.contents.specs.declared.envelope.Envelope.{Envelope}
-use Rattle.envelopes.specs.Envelope.{checkEnvelope, envelopeBytes}
+use Rattle.envelopes.specs.Envelope.{checkEnvelope}
 use Rattle.paths.specs.Steps.{legal, legality, legalityOf}
 use Rattle.paths.specs.declared.steps.Step.{Step}
 use Rattle.paths.specs.declared.steps.Legality.{Legality}
 use Rattle.paths.specs.declared.steps.Legality.the-variants as Legality
 use Rattle.papers.specs.Checks.{papersOf}
-use Rattle.papers.specs.Programs.{checkProgram, programBytes}
 use Rattle.tables.specs.Shape.{marksTests, columnTests}
-use Rattle.tables.proofs.CallLaws.{values-number as gathered-number, values-stay}
-use Rattle.semijoin.specs.Marks.{marksAfter}
+use Rattle.tables.proofs.CallLaws.{values-number as gathered-number}
 use Rattle.semijoin.proofs.CallPromiseLaws.{call-promise}
 use Rattle.ends.proofs.SoundLaws.{firstNumbers, sound-number, usable-number}
 use Rattle.station.proofs.OpeningLaws.{open-number, open-untouched}
-use Rattle.station.proofs.MakingLaws.{values-number, rows-number, made-untouched}
+use Rattle.station.proofs.MakingLaws.{values-number, rows-number}
 use Rattle.station.proofs.ReceivingLaws.{lastNumbers, received-number, received-marks, received-store, received-end}
-use Rattle.answerer.specs.Answer.{answeredIn}
 use Rattle.demands.proofs.StructPapers.{check-struct, papers-struct}
-use Rattle.demands.proofs.PaperLaws.{read-number, check-number, program-read-number, program-check-number, papers-number, write-refused, plan-refused, estimate-refused}
+use Rattle.demands.proofs.PaperLaws.{read-number, check-number, program-read-number, program-check-number, papers-number, envelope-write-number, program-write-number, plan-refused, estimate-refused}
 use Rattle.demands.proofs.AnswerNumbers.{tables-number, end-number}
 use Rattle.demands.specs.DemandOne.{EveryCall}
-
--- ---- what was lent stays
-
-answered-stays : (out : List ℕ) (o : Outcome (List ℕ)) (n u : ℕ) → o ≡ bad n u → answeredIn out o ≡ out
-unfolding answeredIn
-answered-stays out o n u h = rw h
-
-marks-stay : (marks : List ℕ) (o : Outcome (List ℕ)) (n u : ℕ) → o ≡ bad n u → marksAfter marks o ≡ marks
-marks-stay marks o n u h = ap (marksAfter marks) h ∙ call-promise .marks-kept marks n u
 
 -- ---- numbers
 
 only-number : {A B : Type 0} {C : Type 0} → A ⊎ (B × C) → A ⊎ B
 only-number (inl a) = inl a
 only-number (inr (b, _)) = inr b
-
-one-of : {A : Type 0} {n k : ℕ} → A ⊎ (n ≡ k) → A ⊎ List·Memᴰ n (k ∷ [])
-one-of (inl a) = inl a
-one-of (inr k) = inr (List·Memᴰ·head k)
 
 -- the first refusals of a call on an end, then its own
 first-or : {A : Type 0} (first rest : List ℕ) (n u : ℕ) → (A ⊎ (List·Memᴰ n first × (u ≡ 0))) ⊎ List·Memᴰ n rest → A ⊎ List·Memᴰ n (first ++ rest)
@@ -91,14 +76,8 @@ demand-one e p x s words marks store out =
       papers-checked = papers-number e p;
       envelope-struct = check-struct e;
       papers-struct = λ fits small. papers-struct e fits p small;
-      envelope-written = (
-        λ n u h. one-of (write-refused (checkEnvelope e) (envelopeBytes e) out n u h .0),
-        λ n u h. write-refused (checkEnvelope e) (envelopeBytes e) out n u h .1,
-      );
-      program-written = (
-        λ n u h. one-of (write-refused (checkProgram e p) (programBytes p) out n u h .0),
-        λ n u h. write-refused (checkProgram e p) (programBytes p) out n u h .1,
-      );
+      envelope-written = (envelope-write-number e (length out), leaves-refused (sets out 0) out _);
+      program-written = (program-write-number e p (length out), leaves-refused (sets out 0) out _);
       legality = λ t n u h. inl (legality-refused (checkEnvelope e) t n u h);
       selections = λ r n u h. inl (refused-is (checkEnvelope e) n u h);
       equalities = λ r n u h. inl (refused-is (checkEnvelope e) n u h);
@@ -107,20 +86,20 @@ demand-one e p x s words marks store out =
       estimating = λ n u h. inl (estimate-refused (papersOf e p) n u h);
       marks-judged = λ k. judged-alone (marksTests e words k);
       column-judged = λ a k. judged-alone (columnTests e a words k);
-      gathering = λ a start. (λ n u h. gathered-number e a words marks start out n u h .0, values-stay e a words marks start out);
-      opening-marks = λ here. (λ n u h. only-number (call-promise .open-number e words here marks n u h), marks-stay marks _);
-      reducing = λ values a. (λ n u h. call-promise .reduce-number e words values a marks n u h .0, marks-stay marks _);
-      in-one-place = (λ n u h. only-number (call-promise .run-number e p words marks n u h), marks-stay marks _);
+      gathering = λ a start. (λ n u h. gathered-number e a words marks start out n u h .0, leaves-refused (sets out start) out _);
+      opening-marks = λ here. (λ n u h. only-number (call-promise .open-number e words here marks n u h), leaves-refused (λ v. v) marks _);
+      reducing = λ values a. (λ n u h. call-promise .reduce-number e words values a marks n u h .0, leaves-refused (λ v. v) marks _);
+      in-one-place = (λ n u h. only-number (call-promise .run-number e p words marks n u h), leaves-refused (λ v. v) marks _);
       opening = λ site run. (λ n u h. only-number (open-number site run words marks e p n u h), open-untouched site run words marks e p);
       sound = λ n u h. only-number (sound-number x n u h);
       ready = λ k n u h. only-number (usable-number x words k n u h);
       making-values = λ step. (
         λ n u h. first-or firstNumbers (notOurs ∷ waiting ∷ tooShort ∷ []) n u (values-number x words marks step (length out) n u h),
-        made-untouched out _,
+        leaves-refused (sets out 0) out _,
       );
       making-rows = λ r. (
         λ n u h. first-or firstNumbers (notOurs ∷ waiting ∷ tooShort ∷ []) n u (rows-number x words marks r (length out) n u h),
-        made-untouched out _,
+        leaves-refused (sets out 0) out _,
       );
       receiving = (
         λ n u h. first-or firstNumbers lastNumbers n u (only-number (received-number x words marks store s n u h)),
@@ -128,6 +107,6 @@ demand-one e p x s words marks store out =
         received-store x words marks store s,
         received-end x words marks store s,
       );
-      answering-tables = (tables-number e words out, answered-stays out _);
-      answering-end = (end-number x store out, answered-stays out _);
+      answering-tables = (tables-number e words out, leaves-refused (sets out 0) out _);
+      answering-end = (end-number x store out, leaves-refused (sets out 0) out _);
     }

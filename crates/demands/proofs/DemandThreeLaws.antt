@@ -4,7 +4,7 @@ use mathlib.Core.Bool.{true}
 use Prim.Native.Nat.{ℕ}
 use mathlib.Core.List.{List, [], _∷_}
 use native.Mathlib.Omega.{arith}
-use lib.ListN.{take, replicate}
+use lib.ListN.{length, take, replicate}
 use lib.Seq.{take-all}
 use Rattle.ground.specs.Lists.{each}
 use Rattle.ground.specs.Outcome.Outcome.{good}
@@ -85,7 +85,7 @@ module _ (c : Crew) (w : Allowed c) where
             record {
               answer = λ all behind out room.
                   answers c w s (a .sound) behind out (a .lower) all (rw (same-answer c w) room)
-                  ∙ ap (λ (l : List ℕ). good l 0) (same-answer c w);
+                  ∙ ap (λ (l : List ℕ). good l (length l)) (same-answer c w);
               waits = λ r h missing before behind out. waits c w s (a .sound) behind out r h missing before;
               held =
                   held-map (c .papers .envelope) (λ r m k. (a .upper .made m (k .0), k .1)) (answering c s .end .arrived)

@@ -67,7 +67,7 @@ estimate-holds q u = estimate-kept (q .envelope) (q .program)
 
 answer-taken : (e : Envelope) → Fits e → (words out w : List ℕ) (u : ℕ)
     → (answerOutcome e words out ≡ good w u)
-    ↔ (Within e × (shaped e words ≡ true) × (length (answerWords e words) ≤ length out) × (w ≡ answerWords e words) × (u ≡ 0))
+    ↔ (Within e × (shaped e words ≡ true) × (length (answerWords e words) ≤ length out) × (w ≡ answerWords e words) × (u ≡ length w))
 answer-taken e fits words out w u = (
   λ h.
       let (a, is, end) = answer-exact e words out fits w u .0 h in

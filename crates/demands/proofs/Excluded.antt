@@ -15,6 +15,7 @@ use Rattle.ground.specs.Searching.{firstFrom}
 use Rattle.ground.specs.Rising.{insert, rising}
 use Rattle.ground.proofs.OutcomeLaws.{good-bad}
 use Rattle.fields.specs.Numbers.{numberAt, numberThat, marked, markAt, versionAt, headOf}
+use Rattle.fields.specs.Puts.{fitted}
 use Rattle.entries.specs.Relations.{columnsOf, columnAt, columnBytes, columnsThen, relationAt, relationBytes}
 use Rattle.entries.specs.Places.{place, samePlace, placeAt, placeBytes}
 use Rattle.entries.specs.Clauses.{domainOf, selectionAt, joined, joinAt, clauseAt, kindBytes}
@@ -42,7 +43,7 @@ use Rattle.semijoin.specs.Run.{stepped}
 use Rattle.papers.proofs.ExamplePapers.{couponWeigh}
 use Rattle.semijoin.proofs.Figures.{onNumber, onDate, allKept}
 use Rattle.semijoin.proofs.Figures as reduced
-use Rattle.answerer.specs.Answer.{fitted, answerChecked, answerOutcome}
+use Rattle.answerer.specs.Answer.{answerChecked, answerOutcome}
 
 -- ---- what the definitions give
 
@@ -62,7 +63,7 @@ answerOf e n = (w : List ℕ) × (u : ℕ) × (answerOutcome e couponWeigh (repl
 
 answers : answerOf onNumber 6 × answerOf onDate 12
 unfolding padded numbersFrom numbered littleEnd bytesOf firstFrom numberAt numberThat marked markAt versionAt headOf columnsOf columnAt columnBytes columnsThen relationAt relationBytes samePlace placeAt placeBytes domainOf selectionAt joined joinAt clauseAt kindBytes columnsIn sizesOf relationsOf clausesOf targetsOf withVersion withSizes withRelations withClauses withTargets names kept keptColumns firstBare filled listInto ended targetsThen clausesThen relationsThen sizesThen envelopeFrom envelopeBytes checkEnvelope rowsIn tablesIn tablesOf meetsAll answerOn answerRows countIn firstWord wordsBefore shaped fitted answerChecked answerOutcome
-answers = ((_, 0, refl, refl), (_, 0, refl, refl))
+answers = ((_, 6, refl, refl), (_, 12, refl, refl))
 
 -- a legal step, and that of the marks that keep every row it removes the third
 abbrev onDates : Step

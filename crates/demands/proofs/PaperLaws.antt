@@ -1,26 +1,20 @@
 -- Papers are refused by 1 to 9 alone, an envelope never by 8; and so are what is planned or estimated of them. Writing them
--- is refused by those or 11, and then leaves the buffer.
-use mathlib.Core.Path.{_≡_, refl}
-use mathlib.Core.Bool.{Bool, true, false}
-use mathlib.Core.List.{List, List·Memᴰ, List·Memᴰ·head, List·Memᴰ·tail}
+-- is refused by those or 11.
+use mathlib.Core.Path.{_≡_}
+use mathlib.Core.List.{List, [], _∷_, List·Memᴰ, List·Memᴰ·head, List·Memᴰ·tail}
 use mathlib.Core.Logic.{_⊎_, inl, inr}
 use Prim.Native.Nat.{ℕ}
-use lib.ListN.{length}
-use lib.Seq.{sets}
-use lib.Dec.{leb}
-use Rattle.ground.specs.Tests.{pick}
 use Rattle.ground.specs.Outcome.{Outcome, next, verdictOf}
 use Rattle.ground.specs.Outcome.Outcome.{good, bad}
 use Rattle.ground.specs.declared.Verdict.the-variants.{Refused}
 use Rattle.ground.proofs.OutcomeLaws.{never, next-bad, turned-bad}
 use Rattle.fields.specs.Refusals.{tooShort}
-use Rattle.fields.specs.Puts.{frontOf, frontIn, writtenOf, writtenIn}
-use Rattle.fields.specs.declared.puts.Written.{Written}
-use Rattle.fields.specs.declared.puts.Written.the-variants as Written
+use Rattle.fields.specs.Puts.{fitted}
+use Rattle.fields.proofs.PutLaws.{fitted-bad}
 use Rattle.contents.specs.declared.envelope.Envelope.{Envelope}
-use Rattle.envelopes.specs.Envelope.{readEnvelope, checkEnvelope, envelopeBytes}
+use Rattle.envelopes.specs.Envelope.{readEnvelope, checkEnvelope, writeEnvelopeOf, envelopeBytes}
 use Rattle.paths.specs.Steps.{legal}
-use Rattle.papers.specs.Programs.{programAgainst, readProgram, checkProgram, programBytes}
+use Rattle.papers.specs.Programs.{programAgainst, readProgram, checkProgram, writeProgramOf, programBytes}
 use Rattle.papers.specs.Checks.{papersOf}
 use Rattle.papers.specs.declared.programs.Program.{Program}
 use Rattle.papers.specs.declared.checks.Papers.{Papers}
@@ -81,16 +75,22 @@ papers-number e p n u h = papers-by e p n u h (λ z. List·Memᴰ·tail (check-n
 
 -- ---- writing
 
-pub write-refused : {A : Type 0} (o : Outcome A) (bytes out : List ℕ) (n u : ℕ) → writtenOf o bytes out ≡ Written.Refused n u
-    → ((o ≡ bad n u) ⊎ (n ≡ tooShort)) × (writtenIn o bytes out ≡ out)
-unfolding writtenOf writtenIn frontOf frontIn
-write-refused (bad m p) bytes out n u h = (inl cc, refl)
-write-refused (good v p) bytes out n u h = go (leb (length bytes) (length out)) h
+write-number : {A : Type 0} (o : Outcome A) (bytes : List ℕ) (room n u : ℕ) → next o (λ _ _. fitted room bytes) ≡ bad n u
+    → (o ≡ bad n u) ⊎ List·Memᴰ n (tooShort ∷ [])
+write-number {A} o bytes room n u h = go (next-bad o _ n u h)
   where
-    go : (t : Bool) → _≡_ {A = Written} (pick t (Written.Length (length bytes)) (Written.Refused tooShort 0)) (Written.Refused n u)
-        → ((good v p ≡ bad n u) ⊎ (n ≡ tooShort)) × (pick t (sets out 0 bytes) out ≡ out)
-    go true k = let z : _≡_ {A = ℕ} 0 1 = cc in absurd (never z)
-    go false k = (inr cc, refl)
+    go : (o ≡ bad n u) ⊎ ((a : A) × (p : ℕ) × (o ≡ good a p) × (fitted room bytes ≡ bad n u)) → (o ≡ bad n u) ⊎ List·Memᴰ n (tooShort ∷ [])
+    go (inl k) = inl k
+    go (inr (_, _, _, k)) = inr (fitted-bad room bytes n u k .0)
+
+pub envelope-write-number : (e : Envelope) (room n u : ℕ) → writeEnvelopeOf e room ≡ bad n u → (checkEnvelope e ≡ bad n u) ⊎ List·Memᴰ n (tooShort ∷ [])
+unfolding writeEnvelopeOf
+envelope-write-number e room n u h = write-number (checkEnvelope e) (envelopeBytes e) room n u h
+
+pub program-write-number : (e : Envelope) (p : Program) (room n u : ℕ) → writeProgramOf e p room ≡ bad n u
+    → (checkProgram e p ≡ bad n u) ⊎ List·Memᴰ n (tooShort ∷ [])
+unfolding writeProgramOf
+program-write-number e p room n u h = write-number (checkProgram e p) (programBytes p) room n u h
 
 -- ---- planning and estimating
 

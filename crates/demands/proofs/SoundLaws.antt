@@ -12,7 +12,7 @@ use lib.Seq.{sets, take-at, length-take-le, length-sets}
 use lib.Dec.{ltb, leb}
 use borrow.Author.Tests.{eq-eqb, ne-eqb, le-ltb}
 use Rattle.ground.specs.Tests.{pick}
-use Rattle.ground.specs.Outcome.{Outcome}
+use Rattle.ground.specs.Outcome.{Outcome, leaves}
 use Rattle.ground.specs.Outcome.Outcome.{good, bad}
 use Rattle.ground.proofs.OutcomeLaws.{never, leaves-good, leaves-bad}
 use Rattle.contents.specs.Parts.{relationCount}
@@ -21,7 +21,6 @@ use Rattle.contents.specs.Kept.{keptColumns}
 use Rattle.semijoin.specs.Marks.{reducedBy}
 use Rattle.semijoin.proofs.PromiseLaws.{promise}
 use Rattle.ends.specs.Reducing.{stepCount, stepOf, stepsBefore}
-use Rattle.station.specs.Calls.{leaves}
 use Rattle.ends.specs.Ends.{appliedOf, hasArrived}
 use Rattle.ends.specs.Messages.{frontLength, runOf, secondOf, bodyOf, aboutOf, counted}
 use Rattle.station.specs.Receiving.{Held, appliedTo, withApplied, withArrived, receiveOf, receiveWith}

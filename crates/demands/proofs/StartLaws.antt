@@ -6,13 +6,12 @@ use mathlib.Core.Logic.{_⊎_, inl, inr}
 use Prim.Native.Nat.{ℕ, _≤_}
 use native.Mathlib.Omega.{arith}
 use lib.ListN.{replicate}
-use Rattle.ground.specs.Outcome.{Outcome}
+use Rattle.ground.specs.Outcome.{Outcome, leaves}
 use Rattle.ground.specs.Outcome.Outcome.{good, bad}
 use Rattle.ground.proofs.OutcomeLaws.{leaves-good}
 use Rattle.contents.specs.Sites.{isAt}
 use Rattle.semijoin.specs.Local.{openedIn}
 use Rattle.semijoin.proofs.PromiseLaws.{promise}
-use Rattle.station.specs.Calls.{leaves}
 use Rattle.ends.specs.Ends.{Marked, startOf, noEnd}
 use Rattle.station.specs.Making.{makeValuesOf, makeRowsOf}
 use Rattle.station.specs.Receiving.{Held, receiveOf}

@@ -23,7 +23,6 @@ use Rattle.papers.specs.Checks.{papersOf}
 use Rattle.papers.specs.declared.programs.Program.{Program}
 use Rattle.papers.proofs.ExamplePapers.{couponWeigh}
 use Rattle.semijoin.proofs.Figures.{onNumber}
-use Rattle.answerer.specs.Answer.{fitted as answerFits}
 use Rattle.demands.specs.Link.{Crew, Allowed, State, start, afterAll, lentStore, siteOpened, withMade, withTaken, after}
 use Rattle.demands.specs.Orderly.{inTurn, inOrder, Happens}
 use Rattle.demands.specs.DemandThree.{answering}
@@ -31,11 +30,12 @@ use Rattle.demands.proofs.OrderlyLaws.{in-order}
 use Rattle.tables.specs.Offsets.{rowCount}
 use Rattle.ground.specs.Bytes.{littleEnd, bytesOf}
 use Rattle.ground.specs.Lists.{padded, numbersFrom}
-use Rattle.ground.specs.Outcome.{numbered}
+use Rattle.ground.specs.Outcome.{numbered, leaves}
 use Rattle.ground.specs.Rising.{insert, rising}
 use Rattle.ground.specs.Searching.{firstFrom}
 use Rattle.ground.proofs.EveryLaws.{every-replicate}
 use Rattle.fields.specs.Numbers.{numberAt, numberThat, marked, markAt, versionAt, headOf}
+use Rattle.fields.specs.Puts.{fitted}
 use Rattle.entries.specs.Clauses.{domainOf, selectionAt, joined, joinAt, clauseAt, kindBytes}
 use Rattle.entries.specs.Places.{samePlace, placeAt, placeBytes}
 use Rattle.entries.specs.Relations.{columnsOf, columnAt, columnBytes, columnsThen, relationAt, relationBytes}
@@ -58,8 +58,7 @@ use Rattle.semijoin.specs.Marks.{sieved, sievedOver, reducedBy}
 use Rattle.ends.specs.Ends.{overAt, overApplied, soundEnd, usable, startOf}
 use Rattle.ends.specs.Messages.{valueMessage, rowMessage, aboutOf, counted, soundValues, rowsOf}
 use Rattle.ends.specs.Reducing.{stepOf, reduces, reducing, stepsBefore, isMissing, firstMissing, missingIn}
-use Rattle.station.specs.Calls.{leaves}
-use Rattle.station.specs.Making.{fitted, valuesWith, makeValuesOf, sentRows, rowsWith, makeRowsOf}
+use Rattle.station.specs.Making.{valuesWith, makeValuesOf, sentRows, rowsWith, makeRowsOf}
 use Rattle.station.specs.Opening.{openWith, openOf}
 use Rattle.station.specs.Receiving.{appliedTo, withApplied, withArrived, valuesTaken, rowsTaken, taken as taken-of, receiveWith, receiveOf}
 use Rattle.answerer.specs.Assembly.{firstAwaited, sourceAnswer, assembled, assembledWith, assembledOutcome}
@@ -101,8 +100,8 @@ pub computed : (finish .made
     ∷ (7 ∷ 0 ∷ 3 ∷ 11 ∷ 12 ∷ 13 ∷ []) ∷ [])
     × (finish .at 1 .marks ≡ 1 ∷ 1 ∷ 0 ∷ 9 ∷ []) × (finish .at 2 .marks ≡ 1 ∷ 1 ∷ 1 ∷ 0 ∷ [])
     × (assembledOutcome (answering crew finish .end) (lentStore (answering crew finish) []) (replicate 6 0)
-    ≡ good (11 ∷ 5 ∷ 12 ∷ 7 ∷ 12 ∷ 7 ∷ []) 0)
-unfolding littleEnd bytesOf padded numbersFrom numbered insert rising firstFrom numberAt numberThat marked markAt versionAt headOf domainOf selectionAt joined joinAt clauseAt kindBytes samePlace placeAt placeBytes columnsOf columnAt columnBytes columnsThen relationAt relationBytes names kept keptColumns firstBare sizesOf relationsOf clausesOf targetsOf columnsIn withVersion withSizes withRelations withClauses withTargets siteOf isAt holds filled listInto ended targetsThen clausesThen relationsThen sizesThen envelopeFrom envelopeBytes checkEnvelope constantsOf selectionsBy equalitiesBy rowsIn tablesIn tablesOf meetsAll answerOn answerRows edges onPath isPlace legalBy stepBytes papersOf stepsOf stepAt endedProgram stepsThen programBy readProgram programBytes checkProgram countIn wordsBefore rowsBefore firstWord rowsOver marksOver rowsAt marksAt isRising keptOf keptRows shaped valuesOver valuesOf risingValues passesBy passes openingMark openedAt opened openedIn sieved sievedOver reducedBy overAt overApplied soundEnd usable startOf valueMessage rowMessage aboutOf counted soundValues rowsOf stepOf reduces reducing stepsBefore isMissing firstMissing missingIn leaves fitted valuesWith makeValuesOf sentRows rowsWith makeRowsOf openWith openOf appliedTo withApplied withArrived valuesTaken rowsTaken taken-of receiveWith receiveOf firstAwaited sourceAnswer assembled assembledWith assembledOutcome wordFrom rowFrom tableFrom tablesBehind standsIn layStored metBy messageAt dueIn laysFrom sourceHeld sourceOf answerFits siteOpened withMade withTaken after inTurn inOrder
+    ≡ good (11 ∷ 5 ∷ 12 ∷ 7 ∷ 12 ∷ 7 ∷ []) 6)
+unfolding littleEnd bytesOf padded numbersFrom numbered insert rising firstFrom numberAt numberThat marked markAt versionAt headOf domainOf selectionAt joined joinAt clauseAt kindBytes samePlace placeAt placeBytes columnsOf columnAt columnBytes columnsThen relationAt relationBytes names kept keptColumns firstBare sizesOf relationsOf clausesOf targetsOf columnsIn withVersion withSizes withRelations withClauses withTargets siteOf isAt holds filled listInto ended targetsThen clausesThen relationsThen sizesThen envelopeFrom envelopeBytes checkEnvelope constantsOf selectionsBy equalitiesBy rowsIn tablesIn tablesOf meetsAll answerOn answerRows edges onPath isPlace legalBy stepBytes papersOf stepsOf stepAt endedProgram stepsThen programBy readProgram programBytes checkProgram countIn wordsBefore rowsBefore firstWord rowsOver marksOver rowsAt marksAt isRising keptOf keptRows shaped valuesOver valuesOf risingValues passesBy passes openingMark openedAt opened openedIn sieved sievedOver reducedBy overAt overApplied soundEnd usable startOf valueMessage rowMessage aboutOf counted soundValues rowsOf stepOf reduces reducing stepsBefore isMissing firstMissing missingIn leaves fitted valuesWith makeValuesOf sentRows rowsWith makeRowsOf openWith openOf appliedTo withApplied withArrived valuesTaken rowsTaken taken-of receiveWith receiveOf firstAwaited sourceAnswer assembled assembledWith assembledOutcome wordFrom rowFrom tableFrom tablesBehind standsIn layStored metBy messageAt dueIn laysFrom sourceHeld sourceOf siteOpened withMade withTaken after inTurn inOrder
 computed = (refl, refl, refl, refl)
 
 -- ---- the crew is one that demand 3 speaks of

@@ -54,7 +54,7 @@ module _ (c : Crew) where
   pub record Answers (s : State) : Type 0 where
     -- once every relation's row message has arrived: the envelope's answer on all tables, the same rows in the same order
     pub answer : ((r : ℕ) → r < relationCount e → hasArrived (answering s .end) r ≡ true) → (behind out : List ℕ) → length (answerWords (c .envelope) (c .whole)) ≤ length out
-        → assembledOutcome (answering s .end) (lentStore (answering s) behind) out ≡ good (answerWords (c .envelope) (c .whole)) 0
+        → assembledOutcome (answering s .end) (lentStore (answering s) behind) out ≡ good (answerWords (c .envelope) (c .whole)) (length (answerWords (c .envelope) (c .whole)))
     -- until then 12, with the lowest relation that has not
     pub waits : (r : ℕ) → r < relationCount e → hasArrived (answering s .end) r ≡ false → ((k : ℕ) → k < r → hasArrived (answering s .end) k ≡ true)
         → (behind out : List ℕ) → assembledOutcome (answering s .end) (lentStore (answering s) behind) out ≡ bad 12 r

@@ -70,4 +70,4 @@ pub record DemandTwo : Type 0 where
       → answerRows e words ≡ map (targetRow (targetsOf e)) (filter (meetsAll (clausesOf e)) (combinations (tablesOf e words)))
   pub answer : (e : Envelope) → Fits e → (words out w : List ℕ) (u : ℕ)
       → (answerOutcome e words out ≡ good w u)
-      ↔ (Within e × (shaped e words ≡ true) × (length (answerWords e words) ≤ length out) × (w ≡ each (λ (row : Row). row) (answerRows e words)) × (u ≡ 0))
+      ↔ (Within e × (shaped e words ≡ true) × (length (answerWords e words) ≤ length out) × (w ≡ each (λ (row : Row). row) (answerRows e words)) × (u ≡ length w))

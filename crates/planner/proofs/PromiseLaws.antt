@@ -2,7 +2,7 @@
 -- the very plan that the contract of plan speaks of.
 use mathlib.Core.Path.{_≡_, refl, sym, ap, _∙_}
 use mathlib.Core.Bool.{Bool, true}
-use mathlib.Core.List.{List, [], _∷_, map, List·Memᴰ, List·Memᴰ·head, List·Memᴰ·not-nil, List·Memᴰ·cases-cons, List·Memᴰ·append-cases}
+use mathlib.Core.List.{List, [], _∷_, List·Memᴰ, List·Memᴰ·head, List·Memᴰ·not-nil, List·Memᴰ·cases-cons, List·Memᴰ·append-cases}
 use mathlib.Core.List.{Memᴰ·append-right, Sublistᴰ, Sublistᴰ·nil-sublist}
 use mathlib.Core.Logic.{_⊎_, inl, inr, _↔_}
 use mathlib.Core.Option.{Option, none, some}
@@ -33,7 +33,6 @@ use Rattle.estimates.specs.Costs.{plainCosts}
 use Rattle.estimates.specs.Kind.{Kind, afterAll, costs, total}
 use Rattle.estimates.specs.Estimate.{kindOf, linesOf, lineSteps, estimated}
 use Rattle.estimates.specs.declared.costs.Costs.{Costs}
-use Rattle.estimates.specs.declared.lines.Line.{Line}
 use Rattle.estimates.proofs.EstimateLaws.{step-tells, lines-steps}
 use Rattle.planner.specs.Choice.{Handed, greedy, cheapest, stepsAt, dropped, drops, dearestFirst, siteAmong, fallback}
 use Rattle.planner.specs.Plan.{siteFor, greedySteps, dropsAt, afterDrops, planned, planFor, planOf}

@@ -1,6 +1,6 @@
 -- What making a message says: where it is taken, its facts, and where these hold it is; where it is refused, by which
 -- number. That nothing changed then is `leaves-refused` (ground).
-use mathlib.Core.Path.{_≡_, ap, sym, _∙_}
+use mathlib.Core.Path.{_≡_, ap}
 use mathlib.Core.Bool.{Bool, true, _&&_}
 use mathlib.Core.List.{List, [], _∷_, List·Memᴰ, List·Memᴰ·tail, Memᴰ·append-left}
 use mathlib.Core.Logic.{_⊎_, inl, inr}
@@ -10,8 +10,8 @@ use lib.Dec.{ltb}
 use borrow.Author.Tests.{ltb-true, ltb-false, lt-ltb, le-ltb, not-false}
 use Rattle.ground.specs.Outcome.{Outcome}
 use Rattle.ground.specs.Outcome.Outcome.{good, bad}
-use Rattle.ground.specs.Refusing.{test, judged}
-use Rattle.ground.proofs.OutcomeLaws.{next-good, good-bad}
+use Rattle.ground.specs.Refusing.{judged}
+use Rattle.ground.proofs.OutcomeLaws.{next-good}
 use Rattle.ground.proofs.RefusingLaws.{judged-good, judged-number, each-passes}
 use Rattle.ground.proofs.TestLaws.{and-left, and-right, and-both}
 use Rattle.fields.specs.Refusals.{tooShort, waiting, notOurs}

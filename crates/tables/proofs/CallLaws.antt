@@ -20,8 +20,7 @@ use Rattle.paths.specs.Steps.{isPlace}
 use Rattle.tables.specs.Offsets.{rowCount}
 use Rattle.tables.specs.Shape.{shaped, marksTests, columnTests}
 use Rattle.tables.specs.Rows.{wordOf, keptAt}
-use Rattle.tables.specs.Rising.{among}
-use Rattle.tables.specs.Values.{valuesOf, risingValues, occursIn, roomTest, valuesOutcome}
+use Rattle.tables.specs.Values.{risingValues, occursIn, roomTest, valuesOutcome}
 use Rattle.tables.proofs.ValueLaws.{values-are}
 
 -- ---- a call that begins with 10, 11: of any tests and effect behind them
