@@ -68,11 +68,6 @@ module _ (start : ℕ) (out : List ℕ) (o : Outcome (List ℕ)) where
   writes-same o' e answer after h = (h .0 ∙ ap writtenOf (sym e), h .1 ∙ ap (writtenFrom start out) (sym e))
 
 -- an answer turned back into the outcome
-pub written-bad : (o : Outcome (List ℕ)) (m q : ℕ) → writtenOf o ≡ Refused m q → o ≡ bad m q
-unfolding writtenOf
-written-bad (good words p) m q e = let z : _≡_ {A = ℕ} 0 1 = cc in absurd (never z)
-written-bad (bad n p) m q e = cc
-
 pub written-good : (o : Outcome (List ℕ)) (n : ℕ) → writtenOf o ≡ Length n
     → (words : List ℕ) × (p : ℕ) × (o ≡ good words p) × (n ≡ length words)
 unfolding writtenOf
