@@ -1,8 +1,8 @@
 -- "Every envelope, program, table and radio message, damaged or hostile, is either taken or refused with a number from our list,
 -- and every call ends. A refusal leaves the row marks, the store and every output as they were before the call." Of each public
--- call on papers, tables, marks, ends and stores that can refuse: by no other numbers than 01 lists for it, and what a refusal
--- leaves; that each of them is met is run (crates/cases, crates/refusals, crates/answers). That every call ends is the language's own
--- guarantee, and that a call is taken or refused is what an outcome is.
+-- call below boundary on papers, tables, marks, ends and stores that can refuse: by no other numbers than 01 lists for it, and what a
+-- refusal leaves; boundary's calls are composed of these. That each number is met is run (crates/cases, crates/refusals,
+-- crates/answers). That every call ends is the language's own guarantee, and that a call is taken or refused is what an outcome is.
 -- docs/CONTRACTS.md has the functions that cannot refuse, and those that read one field or entry of a paper.
 use Rattle.demands.specs.Words.{ℕ, _≡_, Bool, List, [], _∷_, List·Memᴰ, _⊎_, length, Outcome, bad, judgement, Refused, Unjudged, Place, Envelope, Fits}
 use Rattle.demands.specs.Words.{Step, Program, ProgramFits, Papers, readEnvelope, checkEnvelope, writeEnvelopeOf, legalityOf, selectionsRead, equalitiesRead}
@@ -34,6 +34,7 @@ Stays o after before = (n u : ℕ) → o ≡ bad n u → after ≡ before
 abbrev pub ownPapers : End → Outcome Papers
 ownPapers x = papersOf (x .envelope) (x .program)
 
+-- s is a paper's bytes, in `receiving` a message; words are tables, k a number of marks, u what goes with a refusal
 pub record DemandOne (e : Envelope) (p : Program) (x : End) (s words marks store out : List ℕ) : Type 0 where
   -- papers as bytes; as structs; as structs whose numbers are within the width of their fields, as all are
   pub envelope-read : By bad (readEnvelope s) envelopeNumbers
