@@ -19,12 +19,16 @@ const PLAN_BATCH: usize = 500;
 /// Parts of a seed from here on are for plans, and from twice here on for damaged scripts.
 const PLAN_PARTS: u64 = 1 << 32;
 pub const DEFAULT_SEED: u64 = 1979;
+/// From so many outcomes on every refusal number is met, whatever the seed: of 10,000 seeds none missed one in half as many.
+const ENOUGH_OUTCOMES: usize = 4_000;
 
 pub struct Settings {
     pub plans: usize,
     /// How many of the plans also go through the command `plan`, one process each.
     pub listings: usize,
     pub outcomes: usize,
+    /// With as many outcomes, a refusal number that was never met fails the comparison; with half as many, a usual one.
+    pub enough: usize,
     pub scripts: usize,
     /// Calls in one script: many, so that starting a process is not the cost.
     pub script_calls: usize,
@@ -42,6 +46,7 @@ impl Default for Settings {
             plans: 1_000,
             listings: 100,
             outcomes: 5_000,
+            enough: ENOUGH_OUTCOMES,
             scripts: 20,
             script_calls: 2_000,
             seed: DEFAULT_SEED,
@@ -107,7 +112,7 @@ pub fn fresh_seed() -> u64 {
     Random::new(now.as_nanos() as u64 ^ u64::from(std::process::id())).draw()
 }
 
-/// Compares as much as the settings say; the first difference ends it.
+/// Compares as much as the settings say; the first difference ends it, and so does a refusal number never met.
 pub fn compare(settings: &Settings) -> Result<Counts, String> {
     let mut counts = Counts {
         seed: settings.seed,
@@ -130,14 +135,17 @@ pub fn compare(settings: &Settings) -> Result<Counts, String> {
             .calls
             .iter()
             .for_each(|(call, outcome)| counts.count_outcome(call, outcome));
-        counts.whole_runs += record.whole_runs;
+        counts.whole_runs.add(&record.whole_runs);
         number += 1;
     }
     for number in 0..settings.scripts {
         compare_damaged_script(settings, number)?;
         counts.scripts += 1;
     }
-    Ok(counts)
+    match counts.check_numbers(settings.enough) {
+        Ok(()) => Ok(counts),
+        Err(missed) => Err(format!("{counts}{missed}")),
+    }
 }
 
 fn compare_plans(settings: &Settings, counts: &mut Counts) -> Result<(), String> {

@@ -1,11 +1,14 @@
 //! What a comparison says: the counts at its end, or the first difference in full.
 
 use crate::calls::{Argument, Call, Outcome, SIGNATURES};
+use crate::generate::runs::RunCounts;
 use crate::planner::History;
 use crate::refusal::LAST_NUMBER;
 use std::fmt;
 
 const CALLS: usize = SIGNATURES.len();
+/// Each of these is met more than 30 times in any 2,000 outcomes; the others sometimes only once.
+const USUAL_NUMBERS: [usize; 9] = [0, 1, 4, 10, 11, 12, 14, 15, 16];
 
 #[derive(Clone, Debug, Default)]
 pub struct Counts {
@@ -20,7 +23,7 @@ pub struct Counts {
     pub with_drops: usize,
     pub fallbacks: usize,
     pub refused_plans: usize,
-    pub whole_runs: usize,
+    pub whole_runs: RunCounts,
     pub scripts: usize,
 }
 
@@ -46,11 +49,28 @@ impl Counts {
         self.outcomes.iter().flatten().sum()
     }
 
-    /// The refusal numbers that no call was refused by.
+    /// The refusal numbers that no call was refused by, and 0 where none was taken.
     pub fn numbers_missed(&self) -> Vec<usize> {
         (0..=LAST_NUMBER)
             .filter(|&number| self.outcomes[number].iter().sum::<usize>() == 0)
             .collect()
+    }
+
+    /// What agreed shows little of a number that was never met: with enough outcomes each must have been, and with half
+    /// as many each usual one.
+    pub fn check_numbers(&self, enough: usize) -> Result<(), String> {
+        let mut missed = self.numbers_missed();
+        if self.outcome_count() < enough {
+            missed.retain(|number| USUAL_NUMBERS.contains(number));
+        }
+        if missed.is_empty() || self.outcome_count() < enough / 2 {
+            return Ok(());
+        }
+        Err(format!(
+            "refusal numbers (0 is taken) that none of {} outcomes met: {}\n",
+            self.outcome_count(),
+            listed(&missed)
+        ))
     }
 }
 
@@ -69,7 +89,7 @@ impl fmt::Display for Counts {
             self.with_steps, self.with_ties, self.with_drops, self.fallbacks, self.refused_plans
         )?;
         writeln!(f, "call outcomes compared: {}", self.outcome_count())?;
-        writeln!(f, "whole runs among them: {}", self.whole_runs)?;
+        write!(f, "{}", self.whole_runs)?;
         writeln!(f, "damaged scripts compared: {}", self.scripts)?;
         write!(f, "{:>9}{:>8}", "refusal", "all")?;
         (1..=CALLS).try_for_each(|call| write!(f, "{:>7}", format!("call{call}")))?;
@@ -77,7 +97,10 @@ impl fmt::Display for Counts {
             write!(f, "\n{:>9}{:>8}", number, row.iter().sum::<usize>())?;
             row.iter().try_for_each(|count| write!(f, "{count:>7}"))?;
         }
-        writeln!(f)
+        match self.numbers_missed().as_slice() {
+            [] => writeln!(f, "\nevery refusal number was met"),
+            missed => writeln!(f, "\nrefusal numbers (0 is taken) not met: {}", listed(missed)),
+        }
     }
 }
 

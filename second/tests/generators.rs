@@ -1,7 +1,8 @@
 //! The generators give what they are there for: sound papers are accepted, and every kind of case turns up.
 
 use second::envelope::{read_envelope, write_envelope, Clause, Envelope};
-use second::generate::{batch, envelopes, programs};
+use second::generate::runs::Kind;
+use second::generate::{batch, envelopes, link, programs, Record};
 use second::paths::{Class, Paths};
 use second::program::{read_papers, write_program};
 use second::random::Random;
@@ -94,8 +95,34 @@ fn batches_hit_every_number_and_are_the_same_again() {
             .calls
             .iter()
             .for_each(|(_, outcome)| hit[outcome.number as usize] += 1);
-        assert!(record.whole_runs > 0);
+        assert!(record.whole_runs.all > 0);
         assert_eq!(record.calls, batch(SEED, number, 2_000).calls);
     }
     assert!(hit.iter().all(|&count| count >= 10), "{hit:?}");
+}
+
+#[test]
+fn whole_runs_have_what_they_are_there_for() {
+    let (mut random, mut record) = (Random::new(SEED), Record::default());
+    for _ in 0..400 {
+        link::whole_run(&mut random, &mut record);
+    }
+    let least = [
+        (Kind::SeveralSteps, 320),
+        (Kind::OneRelationTwice, 240),
+        (Kind::WithinOneSite, 100),
+        (Kind::RowsRemoved, 240),
+        (Kind::Lost, 240),
+        (Kind::Repeated, 320),
+        (Kind::Reordered, 160),
+        (Kind::PartlyAnswered, 300),
+    ];
+    for (kind, least) in least {
+        let count = record.whole_runs.with(kind);
+        assert!(count >= least, "{kind:?}: only {count} of 400");
+    }
+    // Whatever is usual, the other is met too.
+    for kind in [Kind::Steps, Kind::Answered] {
+        assert!(record.whole_runs.with(kind) < 396, "{kind:?}: nearly always");
+    }
 }

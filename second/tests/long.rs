@@ -14,14 +14,7 @@ fn main() {
         return;
     }
     match compare(&settings) {
-        Ok(counts) => {
-            print!("{counts}");
-            assert!(
-                counts.numbers_missed().is_empty(),
-                "never refused by {:?}",
-                counts.numbers_missed()
-            );
-        }
+        Ok(counts) => print!("{counts}"),
         Err(difference) => {
             print!("{difference}");
             std::process::exit(1);

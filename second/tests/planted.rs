@@ -52,11 +52,7 @@ fn main() {
 fn find_each() {
     let counts = compare(&settings("none")).unwrap_or_else(|difference| panic!("no fault, but {difference}"));
     println!("no fault: {} outcomes without a difference", counts.outcome_count());
-    assert!(
-        counts.numbers_missed().is_empty(),
-        "never refused by {:?}",
-        counts.numbers_missed()
-    );
+    numbers_missed_are_named();
     let names = FAULTS.iter().map(|&(name, _)| name).chain(PROGRAM_FAULTS);
     for name in names {
         let Err(difference) = compare(&settings(name)) else {
@@ -68,6 +64,27 @@ fn find_each() {
             head.join("; ").chars().take(150).collect::<String>()
         );
     }
+}
+
+/// A comparison without a difference fails all the same where numbers were never met.
+fn numbers_missed_are_named() {
+    let few = |enough: usize| Settings {
+        plans: 0,
+        outcomes: 20,
+        enough,
+        ..settings("none")
+    };
+    // Of the usual numbers 16 is the last; with half of what is enough no other is asked for.
+    for (enough, last_number) in [(20, " 17"), (40, " 16")] {
+        let said = compare(&few(enough)).expect_err("20 outcomes cannot meet 17 numbers");
+        let last = said.lines().last().unwrap_or_default();
+        println!("found too few outcomes: {last}");
+        assert!(said.contains("no difference") && last.ends_with(last_number), "{said}");
+    }
+    assert!(
+        compare(&few(400)).is_ok(),
+        "20 outcomes are too few to ask for any number"
+    );
 }
 
 fn settings(fault: &str) -> Settings {

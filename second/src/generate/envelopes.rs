@@ -2,6 +2,7 @@
 //! and fallbacks, and so that sizes reach their limits.
 
 use crate::envelope::{name, Clause, Column, ColumnName, Envelope, Relation};
+use crate::paths::{Class, Paths};
 use crate::random::Random;
 use crate::sizes;
 
@@ -61,6 +62,30 @@ pub fn longest_envelope() -> Envelope {
 pub fn envelope_for_tables(random: &mut Random) -> Envelope {
     let most = if random.chance(1, 12) { sizes::RELATIONS } else { 4 };
     envelope_of(random, Manner::Even, most)
+}
+
+/// An envelope for tables with a class over two relations, and none with two constants: there are legal steps, and
+/// the answer need not be empty. Mostly a class over two relations has no constant, so that steps remove rows.
+pub fn envelope_for_runs(random: &mut Random) -> Envelope {
+    let most = if random.chance(3, 4) { 0 } else { 1 };
+    loop {
+        let envelope = envelope_for_tables(random);
+        let classes = Paths::of(&envelope).classes;
+        let joined = |class: &Class| {
+            class
+                .columns
+                .iter()
+                .any(|one| one.relation != class.columns[0].relation)
+        };
+        let may_answer = classes.iter().all(|class| class.constants.len() < 2);
+        if may_answer
+            && classes
+                .iter()
+                .any(|class| joined(class) && class.constants.len() <= most)
+        {
+            return envelope;
+        }
+    }
 }
 
 fn envelope_of(random: &mut Random, manner: Manner, most_relations: u32) -> Envelope {

@@ -3,7 +3,9 @@
 
 use crate::boundary::{APPLIED, ARRIVED};
 use crate::calls::{Argument, Outcome, MAKE_ROWS, MAKE_VALUES};
+use crate::generate::air::Air;
 use crate::generate::hostile::changed_message;
+use crate::generate::runs::Kind;
 use crate::generate::scene::{with_room, with_short_room, Scene, Station};
 use crate::generate::Record;
 use crate::random::Random;
@@ -16,21 +18,26 @@ struct Run<'a> {
     /// The station of each site that holds a relation.
     stations: Vec<(u32, Station)>,
     store: Vec<u32>,
-    /// Messages on the air.
-    air: Vec<Vec<u32>>,
+    air: Air,
 }
 
 pub fn whole_run(random: &mut Random, record: &mut Record) {
-    let scene = Scene::new(random);
+    let scene = Scene::for_run(random);
     let mut run = Run::open(random, record, &scene);
+    let opened = run.kept_at_home();
     let noise = run.random.below(12) + 2 * scene.envelope.relations.len() + 2 * scene.program.steps.len().min(20);
-    for _ in 0..noise {
-        run.something_happens();
+    for moment in 0..noise {
+        // First more is made than heard, so that messages stand on the air beside each other.
+        let weights = if moment < noise / 3 { [9, 3, 3, 1] } else { [4, 3, 8, 1] };
+        run.something_happens(&weights);
     }
     run.finish();
+    for _ in 0..run.random.below(4) {
+        run.deliver_something();
+    }
     run.check_answer();
     run.check_marks();
-    run.record.whole_runs += 1;
+    run.count(&opened);
 }
 
 impl<'a> Run<'a> {
@@ -55,13 +62,13 @@ impl<'a> Run<'a> {
             scene,
             stations,
             store,
-            air: Vec::new(),
+            air: Air::default(),
         }
     }
 
-    fn something_happens(&mut self) {
+    fn something_happens(&mut self, weights: &[usize]) {
         let relations = self.scene.envelope.relations.len();
-        match self.random.weighted(&[4, 3, 7, 1]) {
+        match self.random.weighted(weights) {
             0 => {
                 let step = self.random.below(self.scene.program.steps.len() + 1);
                 let place = self.maker_of_step(step);
@@ -114,7 +121,7 @@ impl<'a> Run<'a> {
         let probes = usize::from(self.random.chance(1, 3));
         let outcome = self.record.ask_and_probe(self.random, call, probes);
         if let (0, [Words(message)]) = (outcome.number, outcome.buffers.as_slice()) {
-            self.air.push(message[..outcome.value as usize].to_vec());
+            self.air.send(message[..outcome.value as usize].to_vec());
         }
     }
 
@@ -124,29 +131,33 @@ impl<'a> Run<'a> {
             return;
         }
         let place = self.random.below(self.air.len());
-        let message = self.air[place].clone();
         match self.random.weighted(&[2, 4, 6]) {
-            0 => drop(self.air.swap_remove(place)),
-            1 => self.deliver(&message),
+            0 => self.air.fade(place),
+            1 => self.deliver(place),
             _ => {
-                self.air.swap_remove(place);
-                self.deliver(&message);
+                self.deliver(place);
+                self.air.fade(place);
             }
         }
     }
 
-    fn deliver(&mut self, message: &[u32]) {
+    fn deliver(&mut self, message: usize) {
+        let words = self.air.words(message).to_vec();
+        let receiver = self.receiver(&words);
         let place = match self.random.chance(9, 10) {
-            true => self.receiver(message),
+            true => receiver,
             false => self.random.below(self.stations.len()),
         };
+        if place == receiver {
+            self.air.hear(message);
+        }
         // The link never alters a message; what a stranger sends is only tried, and nobody goes on with it.
         if self.random.chance(1, 3) {
-            let altered = changed_message(self.random, message.to_vec());
+            let altered = changed_message(self.random, words.clone());
             let call = self.scene.receive(&self.stations[place].1, &self.store, &altered);
             self.record.ask(call);
         }
-        let call = self.scene.receive(&self.stations[place].1, &self.store, message);
+        let call = self.scene.receive(&self.stations[place].1, &self.store, &words);
         let probes = usize::from(self.random.chance(1, 3));
         let outcome = self.record.ask_and_probe(self.random, call, probes);
         self.store = self.stations[place].1.take_back_received(outcome);
@@ -192,9 +203,20 @@ impl<'a> Run<'a> {
         }
     }
 
+    /// Mostly the newest message gets through at once; else it is lost, late, heard twice, or heard behind another.
     fn deliver_newest(&mut self) {
-        let message = self.air.last().cloned().expect("what is due can be made");
-        self.deliver(&message);
+        let newest = self.air.len().checked_sub(1).expect("what is due can be made");
+        match self.random.weighted(&[1, 1, 1, 1, 5]) {
+            0 => return self.air.fade(newest),
+            1 => return,
+            2 => self.deliver(newest),
+            3 => {
+                let any = self.random.below(newest + 1);
+                self.deliver(any);
+            }
+            _ => {}
+        }
+        self.deliver(newest);
     }
 
     fn is_applied(&self, step: usize) -> bool {
@@ -223,6 +245,8 @@ impl<'a> Run<'a> {
             written(&on_tables),
             "the answer at the end is not that on the tables"
         );
+        let words = written(&at_end).map_or(0, |words| words.len());
+        self.air.met.note_answer(self.scene, words);
     }
 
     /// Demand 3: no row stays that the one-place run would have removed.
@@ -232,19 +256,32 @@ impl<'a> Run<'a> {
         let [Bytes(together)] = outcome.buffers.as_slice() else {
             unreachable!("a one-place run has marks")
         };
-        let mut first_together = 0;
+        let kept = self.kept_at_home();
+        assert!(
+            kept.iter().zip(together).all(|(&kept, &mark)| !kept || mark != 0),
+            "a removed row was kept at its end"
+        );
+    }
+
+    /// For each row, in the order of the tables, whether its own station keeps it.
+    fn kept_at_home(&self) -> Vec<bool> {
+        let mut kept = Vec::new();
         for relation in 0..self.scene.envelope.relations.len() {
             let station = &self.stations[self.station_of(relation)].1;
             let first = self.scene.first_mark(&station.tables, relation);
-            for row in 0..self.scene.tables[relation] as usize {
-                let kept = station.marks[first + row] != 0;
-                assert!(
-                    !kept || together[first_together + row] != 0,
-                    "a removed row was kept at its end"
-                );
-            }
-            first_together += self.scene.tables[relation] as usize;
+            let rows = self.scene.tables[relation] as usize;
+            kept.extend(station.marks[first..first + rows].iter().map(|&mark| mark != 0));
         }
+        kept
+    }
+
+    fn count(&mut self, opened: &[bool]) {
+        let kept = self.kept_at_home();
+        let removed = opened.iter().zip(&kept).any(|(&before, &after)| before && !after);
+        let met = &mut self.air.met;
+        met.note_steps(self.scene);
+        met.note(Kind::RowsRemoved, removed && kept.contains(&true));
+        self.record.whole_runs.count(met);
     }
 }
 

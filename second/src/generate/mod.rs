@@ -1,5 +1,6 @@
 //! Generators from a seed: papers, tables, ends, messages and whole runs, sound and damaged.
 
+pub mod air;
 pub mod damage;
 pub mod envelopes;
 pub mod hostile;
@@ -7,6 +8,7 @@ pub mod link;
 pub mod papers;
 pub mod places;
 pub mod programs;
+pub mod runs;
 pub mod scene;
 pub mod scripts;
 pub mod station;
@@ -14,13 +16,14 @@ pub mod tables;
 
 use crate::calls::{perform, Call, Outcome};
 use crate::random::Random;
+use runs::RunCounts;
 
 /// The calls of a batch with the outcomes that this program gives them.
 #[derive(Default)]
 pub struct Record {
     pub calls: Vec<(Call, Outcome)>,
     /// Whole runs over the link whose answer was compared with the answer on the original tables.
-    pub whole_runs: usize,
+    pub whole_runs: RunCounts,
 }
 
 impl Record {

@@ -10,7 +10,10 @@ use crate::sizes;
 const RUN_NUMBER: u32 = 7;
 
 pub fn one_place(random: &mut Random, record: &mut Record) {
-    let scene = Scene::new(random);
+    let scene = match random.chance(1, 2) {
+        true => Scene::for_run(random),
+        false => Scene::new(random),
+    };
     let marks = scene.row_count(&scene.tables) + random.pick(&[0, 0, 1, 3]);
     let call = scene.run_in_one_place(random.bytes(marks));
     record.ask_and_probe(random, call, 3);

@@ -41,14 +41,44 @@ pub fn program(random: &mut Random, envelope: &Envelope) -> Program {
     }
 }
 
+/// An accepted program, of several steps where it is not the planned one. The envelope has a legal step.
+pub fn program_for_runs(random: &mut Random, envelope: &Envelope) -> Program {
+    let site = random.pick(&envelope.sites());
+    let mut legal = Paths::of(envelope).legal_steps();
+    let length = random.between(2, 8) as usize;
+    let steps = match random.weighted(&[1, 6, 3, 3]) {
+        0 => return plan(envelope).program,
+        1 => some_of_several(random, &legal, 3, length),
+        2 => {
+            random.shuffle(&mut legal);
+            legal.truncate(12);
+            legal
+        }
+        _ => {
+            // All but one reduce the same relation.
+            let reduced = random.pick(&legal).left.relation;
+            let other = random.pick(&legal);
+            legal.retain(|step| step.left.relation == reduced);
+            let mut steps = some_of_several(random, &legal, 2, length);
+            steps.insert(random.below(length + 1), other);
+            steps
+        }
+    };
+    Program { site, steps }
+}
+
 fn some_of(random: &mut Random, legal: &[Step], length: usize) -> Vec<Step> {
+    some_of_several(random, legal, 1, length)
+}
+
+fn some_of_several(random: &mut Random, legal: &[Step], fewest: usize, length: usize) -> Vec<Step> {
     if legal.is_empty() {
         return Vec::new();
     }
     // Of few different steps, repeats are usual.
     let mut choice = legal.to_vec();
     random.shuffle(&mut choice);
-    choice.truncate(random.below(legal.len()) + 1);
+    choice.truncate(fewest.max(random.below(legal.len()) + 1));
     (0..length).map(|_| random.pick(&choice)).collect()
 }
 

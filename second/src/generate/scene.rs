@@ -66,6 +66,17 @@ impl Scene {
         Scene::of(envelope, program, tables)
     }
 
+    /// Mostly several steps, tables that they reduce and an answer with rows; else whatever comes.
+    pub fn for_run(random: &mut Random) -> Scene {
+        if random.chance(1, 8) {
+            return Scene::new(random);
+        }
+        let envelope = envelopes::envelope_for_runs(random);
+        let program = programs::program_for_runs(random, &envelope);
+        let tables = tables::tables_with_answer(random, &envelope);
+        Scene::of(envelope, program, tables)
+    }
+
     pub fn of(envelope: Envelope, program: Program, tables: Vec<u32>) -> Scene {
         let (envelope_bytes, program_bytes) = (write_envelope(&envelope), write_program(&program));
         Scene {

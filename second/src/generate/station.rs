@@ -12,7 +12,7 @@ use crate::random::Random;
 const RUN_NUMBER: u32 = 3;
 
 pub fn hostile_end(random: &mut Random, record: &mut Record) {
-    let scene = Scene::new(random);
+    let scene = Scene::for_run(random);
     let (station, store) = invented_end(random, &scene);
     for _ in 0..2 {
         let step = random.below(scene.program.steps.len() + 1) as u32;
@@ -23,7 +23,7 @@ pub fn hostile_end(random: &mut Random, record: &mut Record) {
         record.ask_and_probe(random, call, 1);
     }
     for _ in 0..3 {
-        let mut message = invented_message(random, &scene);
+        let mut message = invented_message(random, &scene, station.state[SITE]);
         if random.chance(1, 4) {
             message = changed_message(random, message);
         }
@@ -108,10 +108,18 @@ fn value_message(random: &mut Random, step: u32) -> Vec<u32> {
     [vec![RUN_NUMBER, step, values.len() as u32], values].concat()
 }
 
-fn invented_message(random: &mut Random, scene: &Scene) -> Vec<u32> {
-    let steps = scene.program.steps.len();
-    if steps > 0 && random.chance(2, 3) {
-        let step = random.below(steps) as u32;
+/// A message, mostly for the site, with some steps before or behind their turn.
+fn invented_message(random: &mut Random, scene: &Scene, site: u32) -> Vec<u32> {
+    let steps = scene.program.steps.iter().enumerate();
+    let anywhere = random.chance(1, 4);
+    let mut numbers = Vec::new();
+    for (number, step) in steps {
+        if anywhere || scene.envelope.relations[step.left.relation].site == site {
+            numbers.push(number as u32);
+        }
+    }
+    if !numbers.is_empty() && random.chance(2, 3) {
+        let step = random.pick(&numbers);
         return value_message(random, step);
     }
     let relation = random.below(scene.envelope.relations.len());

@@ -2,7 +2,7 @@
 
 use crate::envelope::{name, Envelope};
 use crate::generate::envelopes::CONSTANTS;
-use crate::paths::Paths;
+use crate::paths::{Class, Paths};
 use crate::random::Random;
 use crate::sizes;
 
@@ -35,6 +35,60 @@ fn row_counts(random: &mut Random, relations: usize) -> Vec<u32> {
     }
     random.shuffle(&mut counts);
     counts
+}
+
+/// Tables of which one combination of rows meets all clauses, where no class has two constants, and most do not.
+pub fn tables_with_answer(random: &mut Random, envelope: &Envelope) -> Vec<u32> {
+    let classes = Paths::of(envelope).classes;
+    // Many different values, so that a row may well have no partner.
+    let more = random.below(9);
+    let pool = [CONSTANTS.to_vec(), random.words(more)].concat();
+    let shared = value_of_each(random, &classes, &pool);
+    let counts = several_rows(row_counts(random, envelope.relations.len()));
+    let mut words = counts.clone();
+    for (relation, &count) in counts.iter().enumerate() {
+        let mut rows = Vec::new();
+        for row in 0..count {
+            let values = match if row == 0 { 0 } else { random.weighted(&[2, 5, 1]) } {
+                0 => shared.clone(),
+                1 => value_of_each(random, &classes, &pool),
+                _ => Vec::new(),
+            };
+            let mut value = |column: usize| {
+                let own = |class: &Class| class.columns.contains(&name(relation, column));
+                let class = classes.iter().position(own);
+                let value = class.and_then(|class| values.get(class).copied());
+                value.unwrap_or(random.pick(&pool))
+            };
+            let columns = 0..envelope.relations[relation].columns.len();
+            rows.push(columns.map(&mut value).collect::<Vec<_>>());
+        }
+        random.shuffle(&mut rows);
+        words.extend(rows.concat());
+    }
+    words
+}
+
+/// A relation of one row, or of none, gives a step little to do: it gets two where the combinations allow it.
+fn several_rows(counts: Vec<u32>) -> Vec<u32> {
+    let mut combinations: u64 = counts.iter().map(|&count| u64::from(count.max(1))).product();
+    let mut several = |count: u32| {
+        if count < 2 && combinations * 2 <= MOST_COMBINATIONS {
+            combinations *= 2;
+            return 2;
+        }
+        count.max(1)
+    };
+    counts.into_iter().map(&mut several).collect()
+}
+
+/// One value for each class: its constant, where it has one.
+fn value_of_each(random: &mut Random, classes: &[Class], pool: &[u32]) -> Vec<u32> {
+    let value = |class: &Class| match class.constants.as_slice() {
+        [] => random.pick(pool),
+        constants => random.pick(constants),
+    };
+    classes.iter().map(value).collect()
 }
 
 pub fn tables_with(random: &mut Random, envelope: &Envelope, counts: &[u32]) -> Vec<u32> {
