@@ -84,8 +84,8 @@ uint64_t legestran_run_in_one_place(legestran_bytes envelope, legestran_bytes pr
 uint64_t legestran_answer(legestran_bytes envelope, legestran_words tables, legestran_words_out out);
 
 /* 6. Opens a station's end for a run, whose number the stations agree on. The tables follow the envelope; relations of other sites
- * may have 0 rows. Sets marks, one byte for each row, and the first 19 words of state, in which the end is kept; words of state for
- * relations that the envelope has not stay as they were. Hand marks and state to every later call as they are, with the same papers
+ * may have 0 rows. Sets marks, one byte for each row, and the first 19 words of state, in which the end is kept; applied words of
+ * relations that the envelope has not stay as they were, and all eight arrived words are set to 0. Hand marks and state to every later call as they are, with the same papers
  * and the same tables: a table that changes during a run moves the marks. After the papers 10, 4 (site above 7), 11 (marks, then a
  * state of fewer than 19 words).
  *
