@@ -153,7 +153,11 @@ fn refusals(end: End) {
     receiving(b"receive of second word 511", end, &[5u32, 511, 0]);
     receiving(b"receive too few words", end, &[5u32, 0, 2, 3]);
     receiving(b"receive values that do not rise", end, &[5u32, 0, 2, 3, 3]);
-    receiving(b"receive a count above 4,096", end, &[5u32, 0, 4097]);
+    receiving(
+        b"receive a count of 4,097 without its words",
+        end,
+        &[5u32, 0, 4097],
+    );
     receiving(b"receive the greatest count", end, &[5u32, 0, 4294967295]);
     receiving(
         b"receive the greatest count of rows",
