@@ -6,7 +6,7 @@ ghost use Prim.Native.Nat.{_≤_, min};
 ghost use lib.ListN.{length};
 
 // A slice has no more elements than this.
-const MOST: usize = 40960;
+pub(crate) const MOST: usize = 40960;
 
 // A word; the input ends before it; or within it.
 pub(crate) enum WordRead {

@@ -13,43 +13,54 @@ use input::WordRead;
 // slice that was lent for writing, as it is afterwards. Slices have up to 40,960 elements. Input that ends between two calls ends
 // the program; a script that is damaged gets one line on standard error.
 
-// One call by its number; false where the script is damaged.
-fn perform(
-    call: u32,
-    envelope: &mut [u8],
-    program: &mut [u8],
-    marks: &mut [u8],
-    state: &mut [u32],
-    tables: &mut [u32],
-    store: &mut [u32],
-    message: &mut [u32],
-) -> bool {
+// One call by its number; false where the script is damaged. Every call begins with an envelope, and all but two go on with a
+// program: these are read here, each into a buffer of its own.
+fn perform(call: u32) -> bool {
+    if call < 1 || 11 < call {
+        return false;
+    }
+    let mut envelope = [0u8; input::MOST];
+    let e = input::next_bytes(true, &mut envelope);
+    if !e.sound {
+        return false;
+    }
+    let n = e.count;
+    with_envelope(call, &envelope[..n])
+}
+
+fn with_envelope(call: u32, envelope: &[u8]) -> bool {
     match call {
         1 => paper_calls::read_envelope(envelope),
+        5 => paper_calls::answer(envelope),
+        _ => next_program(call, envelope),
+    }
+}
+
+fn next_program(call: u32, envelope: &[u8]) -> bool {
+    let mut program = [0u8; input::MOST];
+    let p = input::next_bytes(true, &mut program);
+    if !p.sound {
+        return false;
+    }
+    let n = p.count;
+    with_papers(call, envelope, &mut program[..n])
+}
+
+fn with_papers(call: u32, envelope: &[u8], program: &mut [u8]) -> bool {
+    match call {
         2 => paper_calls::read_program(envelope, program),
         3 => paper_calls::plan(envelope, program),
-        4 => paper_calls::run_in_one_place(envelope, program, tables, marks),
-        5 => paper_calls::answer(envelope, tables, message),
-        6 => end_calls::open(envelope, program, tables, marks, state),
-        7 => end_calls::make(false, envelope, program, state, tables, marks, message),
-        8 => end_calls::make(true, envelope, program, state, tables, marks, message),
-        9 => end_calls::receive(envelope, program, state, tables, marks, store, message),
-        10 => end_calls::answer_at_end(envelope, program, state, store, message),
-        11 => paper_calls::estimate(envelope, program, message),
+        4 => paper_calls::run_in_one_place(envelope, program),
+        6 => end_calls::open(envelope, program),
+        7 | 8 | 9 => end_calls::next_end(call, envelope, program),
+        10 => end_calls::answer_at_end(envelope, program),
+        11 => paper_calls::estimate(envelope, program),
         _ => false,
     }
 }
 
 // The next call, if there is one; whether to go on.
-fn call_next(
-    envelope: &mut [u8],
-    program: &mut [u8],
-    marks: &mut [u8],
-    state: &mut [u32],
-    tables: &mut [u32],
-    store: &mut [u32],
-    message: &mut [u32],
-) -> bool {
+fn call_next() -> bool {
     let word = input::next_word();
     match word {
         WordRead::End => false,
@@ -58,16 +69,7 @@ fn call_next(
             false
         }
         WordRead::Word(call) => {
-            let sound = perform(
-                call,
-                envelope,
-                program,
-                marks,
-                state,
-                tables,
-                store,
-                message,
-            );
+            let sound = perform(call);
             if !sound {
                 output::say_damaged();
             }
@@ -77,36 +79,9 @@ fn call_next(
 }
 
 // A loop has to end, and nothing says that the input does: so it counts down from a number that no script uses up.
-fn call_all(
-    envelope: &mut [u8],
-    program: &mut [u8],
-    marks: &mut [u8],
-    state: &mut [u32],
-    tables: &mut [u32],
-    store: &mut [u32],
-    message: &mut [u32],
-) {
+fn main() {
     let mut left = u64::MAX;
-    while left > 0 && call_next(envelope, program, marks, state, tables, store, message) {
+    while left > 0 && call_next() {
         left -= 1;
     }
-}
-
-fn main() {
-    let mut envelope = [0u8; 40960];
-    let mut program = [0u8; 40960];
-    let mut marks = [0u8; 40960];
-    let mut state = [0u32; 40960];
-    let mut tables = [0u32; 40960];
-    let mut store = [0u32; 40960];
-    let mut message = [0u32; 40960];
-    call_all(
-        &mut envelope,
-        &mut program,
-        &mut marks,
-        &mut state,
-        &mut tables,
-        &mut store,
-        &mut message,
-    );
 }

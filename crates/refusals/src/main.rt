@@ -10,6 +10,7 @@ use ground::Verdict;
 use papers::programs::Program;
 use paths::steps::Step;
 
+mod making;
 mod show;
 
 const RUN: u32 = 5;
@@ -176,7 +177,7 @@ fn receivings(end: End) -> End {
     refusals(end);
     receiving(b"receive no value", end, &[5u32, 0, 0]);
     let first = receiving(b"receive step 0", end, &[5u32, 0, 1, 2]);
-    rows(b"make rows with step 2 missing", first, 0);
+    making::rows(b"make rows with step 2 missing", first, 0);
     receiving(b"receive step 0 again", first, &[5u32, 0, 1, 2]);
     let rows = receiving(b"receive rows of relation 1", first, &[5u32, 257, 1, 2]);
     receiving(b"receive them again", rows, &[5u32, 257, 1, 2]);
@@ -219,77 +220,6 @@ fn unsound() {
     );
 }
 
-// ---- making
-
-fn values(what: &[u8], end: End, number: u32) {
-    let here = HERE;
-    let marks = [0u8, 1];
-    let mut message = [9u32; 5];
-    let made = station::making::make_values(end, &here, &marks, number, &mut message);
-    show::print_made(what, made, &message);
-}
-
-fn rows(what: &[u8], end: End, relation: u32) {
-    let here = HERE;
-    let marks = [0u8, 1];
-    let mut message = [9u32; 6];
-    let made = station::making::make_rows(end, &here, &marks, relation, &mut message);
-    show::print_made(what, made, &message);
-}
-
-fn makings(end: End, last: End) {
-    values(b"make step 1 with step 0 missing", end, 1);
-    values(b"make step 0 for another site", end, 0);
-    values(b"make no such step", end, 3);
-    values(b"make step 1", last, 1);
-    rows(b"make rows with step 0 missing", end, 0);
-    rows(b"make rows of another site", last, 1);
-    rows(b"make rows of no such relation", last, 256);
-    rows(b"make rows of relation 0", last, 0);
-    let here = HERE;
-    let marks = [0u8, 1];
-    let mut message = [9u32; 4];
-    let made = station::making::make_rows(last, &here, &marks, 0, &mut message);
-    show::print_made(b"make rows that do not fit", made, &message);
-}
-
-fn made_values(what: &[u8], end: End, tables: &[u32], marks: &[u8]) {
-    let mut message = [9u32; 3];
-    let made = station::making::make_values(end, tables, marks, 1, &mut message);
-    show::print_made(what, made, &message);
-}
-
-fn made_rows(what: &[u8], end: End, tables: &[u32], marks: &[u8]) {
-    let mut message = [9u32; 3];
-    let made = station::making::make_rows(end, tables, marks, 0, &mut message);
-    show::print_made(what, made, &message);
-}
-
-fn lent(last: End) {
-    let here = HERE;
-    let short = [2u32, 0, 1];
-    let marks = [0u8, 1];
-    let mut many = last;
-    many.applied = [3u32; 8];
-    made_values(b"make step 1 on tables cut short", last, &short, &marks);
-    made_values(b"make step 1 with one mark", last, &here, &[1u8]);
-    made_values(b"make values that do not fit", last, &here, &marks);
-    made_values(
-        b"make step 1 with more applied than there are",
-        many,
-        &here,
-        &marks,
-    );
-    made_rows(b"make rows on tables cut short", last, &short, &marks);
-    made_rows(b"make rows with one mark", last, &here, &[1u8]);
-    made_rows(
-        b"make rows with more applied than there are",
-        many,
-        &here,
-        &marks,
-    );
-}
-
 // A station delivers to itself: site 1 is the assembly site.
 fn delivered(last: End) {
     let here = HERE;
@@ -310,7 +240,7 @@ fn main() {
     let end = opened();
     let last = receivings(end);
     unsound();
-    makings(end, last);
-    lent(last);
+    making::makings(end, last);
+    making::lent(last);
     delivered(last);
 }

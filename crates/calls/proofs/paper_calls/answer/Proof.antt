@@ -1,127 +1,68 @@
-use lib.ListN.{length-take}
-use native.Mathlib.Omega.{arith}
+use lib.Seq.{length-take-le}
 use borrow.Author.Needs.{needs}
 use Rattle.calls.proofs.paper_calls.answer.Statement.{statement}
 use Rattle.calls.proofs.paper_calls.answer.Tie as tie
 use Rattle.calls.proofs.paper_calls.answer.Reads as reads
 use Rattle.calls.proofs.paper_calls.answer.Lts as lts
-use Rattle.boundary.proofs.running.legestran_answer.Reads as legestran-answer-reads
-use Rattle.calls.proofs.input.next_bytes.Reads as next-bytes-reads
 use Rattle.calls.proofs.input.next_words.Reads as next-words-reads
-use Rattle.calls.proofs.output.put_answer.Reads as put-answer-reads
-use Rattle.calls.proofs.output.put_words.Reads as put-words-reads
+use Rattle.calls.proofs.paper_calls.put_answered.Reads as put-answered-reads
 
--- src/paper_calls.rt:73:9
-next-bytes-requires : tie.Need-next-bytes-requires
-next-bytes-requires c κs = search needs
+-- src/paper_calls.rt:95:37
+slice-aggregate-next-words : tie.Need-slice-aggregate-next-words
+slice-aggregate-next-words c = search needs
 
--- src/paper_calls.rt:74:9
+-- src/paper_calls.rt:95:9
 next-words-requires : tie.Need-next-words-requires
-next-words-requires c κs = search needs
+next-words-requires c κs = tt
 
--- src/paper_calls.rt:75:9
+-- src/paper_calls.rt:96:40
+slice-aggregate-next-words-2 : tie.Need-slice-aggregate-next-words-2
+slice-aggregate-next-words-2 c = search needs
+
+-- src/paper_calls.rt:96:9
 next-words-requires-2 : tie.Need-next-words-requires-2
-next-words-requires-2 c κs = search needs
+next-words-requires-2 c κs = tt
 
--- src/paper_calls.rt:77:9
-same-length : tie.Need-same-length
-same-length c = search needs
-
--- src/paper_calls.rt:77:9
-same-length-2 : tie.Need-same-length-2
-same-length-2 c = search needs
-
--- src/paper_calls.rt:77:9
-same-length-3 : tie.Need-same-length-3
-same-length-3 c = search needs
-
--- src/paper_calls.rt:77:9
+-- src/paper_calls.rt:98:9
 returns : tie.Need-returns
-returns c = search needs
+returns c = tt
 
--- src/paper_calls.rt:83:9
-slice-reshare-prefix-legestran-answer : tie.Need-slice-reshare-prefix-legestran-answer
-slice-reshare-prefix-legestran-answer c = search needs
+-- src/paper_calls.rt:102:28
+array-share-prefix-tables : tie.Need-array-share-prefix-tables
+array-share-prefix-tables c = search needs
 
--- src/paper_calls.rt:83:9
-slice-aggregate-legestran-answer : tie.Need-slice-aggregate-legestran-answer
-slice-aggregate-legestran-answer c = rw length-take (omega arith)
+-- src/paper_calls.rt:102:28
+slice-aggregate-put-answered : tie.Need-slice-aggregate-put-answered
+slice-aggregate-put-answered c = search (length-take-le, needs)
 
--- src/paper_calls.rt:84:9
-slice-reshare-prefix-legestran-answer-2 : tie.Need-slice-reshare-prefix-legestran-answer-2
-slice-reshare-prefix-legestran-answer-2 c = search needs
+-- src/paper_calls.rt:102:46
+array-borrow-prefix-out : tie.Need-array-borrow-prefix-out
+array-borrow-prefix-out c = search needs
 
--- src/paper_calls.rt:84:9
-slice-aggregate-legestran-answer-2 : tie.Need-slice-aggregate-legestran-answer-2
-slice-aggregate-legestran-answer-2 c = rw length-take (omega arith)
+-- src/paper_calls.rt:102:46
+slice-aggregate-put-answered-2 : tie.Need-slice-aggregate-put-answered-2
+slice-aggregate-put-answered-2 c = search (length-take-le, needs)
 
--- src/paper_calls.rt:85:9
-slice-relend-prefix-legestran-answer : tie.Need-slice-relend-prefix-legestran-answer
-slice-relend-prefix-legestran-answer c = search needs
+-- src/paper_calls.rt:102:5
+put-answered-requires : tie.Need-put-answered-requires
+put-answered-requires c κs = tt
 
--- src/paper_calls.rt:85:9
-slice-aggregate-legestran-answer-3 : tie.Need-slice-aggregate-legestran-answer-3
-slice-aggregate-legestran-answer-3 c = rw length-take (omega arith)
-
--- src/paper_calls.rt:82:9
-legestran-answer-requires : tie.Need-legestran-answer-requires
-legestran-answer-requires c κs = search needs
-
--- src/paper_calls.rt:87:5
-put-answer-requires : tie.Need-put-answer-requires
-put-answer-requires c κs = search needs
-
--- src/paper_calls.rt:88:23
-slice-reshare-prefix-put-words : tie.Need-slice-reshare-prefix-put-words
-slice-reshare-prefix-put-words c = search needs
-
--- src/paper_calls.rt:88:23
-slice-aggregate-put-words : tie.Need-slice-aggregate-put-words
-slice-aggregate-put-words c = rw length-take (omega arith)
-
--- src/paper_calls.rt:88:5
-put-words-requires : tie.Need-put-words-requires
-put-words-requires c κs = search needs
-
--- src/paper_calls.rt:72:1
-same-length-4 : tie.Need-same-length-4
-same-length-4 c = search needs
-
--- src/paper_calls.rt:72:1
-same-length-5 : tie.Need-same-length-5
-same-length-5 c = search needs
-
--- src/paper_calls.rt:72:1
-same-length-6 : tie.Need-same-length-6
-same-length-6 c = search needs
-
--- src/paper_calls.rt:72:1
+-- src/paper_calls.rt:92:1
 returns-2 : tie.Need-returns-2
-returns-2 c = search needs
+returns-2 c = tt
 
 pub answer-spec : {M : Type 1} → statement M
 answer-spec =
     tie.close
     (tie.spec
-    next-bytes-requires
+    slice-aggregate-next-words
     next-words-requires
+    slice-aggregate-next-words-2
     next-words-requires-2
-    same-length
-    same-length-2
-    same-length-3
     returns
-    slice-reshare-prefix-legestran-answer
-    slice-aggregate-legestran-answer
-    slice-reshare-prefix-legestran-answer-2
-    slice-aggregate-legestran-answer-2
-    slice-relend-prefix-legestran-answer
-    slice-aggregate-legestran-answer-3
-    legestran-answer-requires
-    put-answer-requires
-    slice-reshare-prefix-put-words
-    slice-aggregate-put-words
-    put-words-requires
-    same-length-4
-    same-length-5
-    same-length-6
+    array-share-prefix-tables
+    slice-aggregate-put-answered
+    array-borrow-prefix-out
+    slice-aggregate-put-answered-2
+    put-answered-requires
     returns-2)

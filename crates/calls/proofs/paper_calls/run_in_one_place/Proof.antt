@@ -1,159 +1,69 @@
-use lib.ListN.{length-take}
-use native.Mathlib.Omega.{arith}
+use lib.Seq.{length-take-le}
 use borrow.Author.Needs.{needs}
 use Rattle.calls.proofs.paper_calls.run_in_one_place.Statement.{statement}
 use Rattle.calls.proofs.paper_calls.run_in_one_place.Tie as tie
 use Rattle.calls.proofs.paper_calls.run_in_one_place.Reads as reads
 use Rattle.calls.proofs.paper_calls.run_in_one_place.Lts as lts
-use Rattle.boundary.proofs.running.legestran_run_in_one_place.Reads as legestran-run-in-one-place-reads
 use Rattle.calls.proofs.input.next_bytes.Reads as next-bytes-reads
 use Rattle.calls.proofs.input.next_words.Reads as next-words-reads
-use Rattle.calls.proofs.output.put_answer.Reads as put-answer-reads
-use Rattle.calls.proofs.output.put_bytes.Reads as put-bytes-reads
+use Rattle.calls.proofs.paper_calls.put_run.Reads as put-run-reads
 
--- src/paper_calls.rt:50:9
-next-bytes-requires : tie.Need-next-bytes-requires
-next-bytes-requires c κs = search needs
+-- src/paper_calls.rt:75:37
+slice-aggregate-next-words : tie.Need-slice-aggregate-next-words
+slice-aggregate-next-words c = search needs
 
--- src/paper_calls.rt:51:9
-next-bytes-requires-2 : tie.Need-next-bytes-requires-2
-next-bytes-requires-2 c κs = search needs
-
--- src/paper_calls.rt:52:9
+-- src/paper_calls.rt:75:9
 next-words-requires : tie.Need-next-words-requires
-next-words-requires c κs = search needs
+next-words-requires c κs = tt
 
--- src/paper_calls.rt:53:9
-next-bytes-requires-3 : tie.Need-next-bytes-requires-3
-next-bytes-requires-3 c κs = search needs
+-- src/paper_calls.rt:76:40
+slice-aggregate-next-bytes : tie.Need-slice-aggregate-next-bytes
+slice-aggregate-next-bytes c = search needs
 
--- src/paper_calls.rt:55:9
-same-length : tie.Need-same-length
-same-length c = search needs
+-- src/paper_calls.rt:76:9
+next-bytes-requires : tie.Need-next-bytes-requires
+next-bytes-requires c κs = tt
 
--- src/paper_calls.rt:55:9
-same-length-2 : tie.Need-same-length-2
-same-length-2 c = search needs
-
--- src/paper_calls.rt:55:9
-same-length-3 : tie.Need-same-length-3
-same-length-3 c = search needs
-
--- src/paper_calls.rt:55:9
-same-length-4 : tie.Need-same-length-4
-same-length-4 c = search needs
-
--- src/paper_calls.rt:55:9
+-- src/paper_calls.rt:78:9
 returns : tie.Need-returns
-returns c = search needs
+returns c = tt
 
--- src/paper_calls.rt:62:9
-slice-reshare-prefix-legestran-run-in-one-place :
-    tie.Need-slice-reshare-prefix-legestran-run-in-one-place
-slice-reshare-prefix-legestran-run-in-one-place c = search needs
+-- src/paper_calls.rt:82:32
+array-share-prefix-tables : tie.Need-array-share-prefix-tables
+array-share-prefix-tables c = search needs
 
--- src/paper_calls.rt:62:9
-slice-aggregate-legestran-run-in-one-place : tie.Need-slice-aggregate-legestran-run-in-one-place
-slice-aggregate-legestran-run-in-one-place c = rw length-take (omega arith)
+-- src/paper_calls.rt:82:32
+slice-aggregate-put-run : tie.Need-slice-aggregate-put-run
+slice-aggregate-put-run c = search (length-take-le, needs)
 
--- src/paper_calls.rt:63:9
-slice-reshare-prefix-legestran-run-in-one-place-2 :
-    tie.Need-slice-reshare-prefix-legestran-run-in-one-place-2
-slice-reshare-prefix-legestran-run-in-one-place-2 c = search needs
+-- src/paper_calls.rt:82:50
+array-borrow-prefix-marks : tie.Need-array-borrow-prefix-marks
+array-borrow-prefix-marks c = search needs
 
--- src/paper_calls.rt:63:9
-slice-aggregate-legestran-run-in-one-place-2 :
-    tie.Need-slice-aggregate-legestran-run-in-one-place-2
-slice-aggregate-legestran-run-in-one-place-2 c = rw length-take (omega arith)
+-- src/paper_calls.rt:82:50
+slice-aggregate-put-run-2 : tie.Need-slice-aggregate-put-run-2
+slice-aggregate-put-run-2 c = search (length-take-le, needs)
 
--- src/paper_calls.rt:64:9
-slice-reshare-prefix-legestran-run-in-one-place-3 :
-    tie.Need-slice-reshare-prefix-legestran-run-in-one-place-3
-slice-reshare-prefix-legestran-run-in-one-place-3 c = search needs
+-- src/paper_calls.rt:82:5
+put-run-requires : tie.Need-put-run-requires
+put-run-requires c κs = tt
 
--- src/paper_calls.rt:64:9
-slice-aggregate-legestran-run-in-one-place-3 :
-    tie.Need-slice-aggregate-legestran-run-in-one-place-3
-slice-aggregate-legestran-run-in-one-place-3 c = rw length-take (omega arith)
-
--- src/paper_calls.rt:65:9
-slice-relend-prefix-legestran-run-in-one-place :
-    tie.Need-slice-relend-prefix-legestran-run-in-one-place
-slice-relend-prefix-legestran-run-in-one-place c = search needs
-
--- src/paper_calls.rt:65:9
-slice-aggregate-legestran-run-in-one-place-4 :
-    tie.Need-slice-aggregate-legestran-run-in-one-place-4
-slice-aggregate-legestran-run-in-one-place-4 c = rw length-take (omega arith)
-
--- src/paper_calls.rt:61:9
-legestran-run-in-one-place-requires : tie.Need-legestran-run-in-one-place-requires
-legestran-run-in-one-place-requires c κs = search needs
-
--- src/paper_calls.rt:67:5
-put-answer-requires : tie.Need-put-answer-requires
-put-answer-requires c κs = search needs
-
--- src/paper_calls.rt:68:23
-slice-reshare-prefix-put-bytes : tie.Need-slice-reshare-prefix-put-bytes
-slice-reshare-prefix-put-bytes c = search needs
-
--- src/paper_calls.rt:68:23
-slice-aggregate-put-bytes : tie.Need-slice-aggregate-put-bytes
-slice-aggregate-put-bytes c = rw length-take (omega arith)
-
--- src/paper_calls.rt:68:5
-put-bytes-requires : tie.Need-put-bytes-requires
-put-bytes-requires c κs = search needs
-
--- src/paper_calls.rt:44:1
-same-length-5 : tie.Need-same-length-5
-same-length-5 c = search needs
-
--- src/paper_calls.rt:44:1
-same-length-6 : tie.Need-same-length-6
-same-length-6 c = search needs
-
--- src/paper_calls.rt:44:1
-same-length-7 : tie.Need-same-length-7
-same-length-7 c = search needs
-
--- src/paper_calls.rt:44:1
-same-length-8 : tie.Need-same-length-8
-same-length-8 c = search needs
-
--- src/paper_calls.rt:44:1
+-- src/paper_calls.rt:72:1
 returns-2 : tie.Need-returns-2
-returns-2 c = search needs
+returns-2 c = tt
 
 pub run-in-one-place-spec : {M : Type 1} → statement M
 run-in-one-place-spec =
     tie.close
     (tie.spec
-    next-bytes-requires
-    next-bytes-requires-2
+    slice-aggregate-next-words
     next-words-requires
-    next-bytes-requires-3
-    same-length
-    same-length-2
-    same-length-3
-    same-length-4
+    slice-aggregate-next-bytes
+    next-bytes-requires
     returns
-    slice-reshare-prefix-legestran-run-in-one-place
-    slice-aggregate-legestran-run-in-one-place
-    slice-reshare-prefix-legestran-run-in-one-place-2
-    slice-aggregate-legestran-run-in-one-place-2
-    slice-reshare-prefix-legestran-run-in-one-place-3
-    slice-aggregate-legestran-run-in-one-place-3
-    slice-relend-prefix-legestran-run-in-one-place
-    slice-aggregate-legestran-run-in-one-place-4
-    legestran-run-in-one-place-requires
-    put-answer-requires
-    slice-reshare-prefix-put-bytes
-    slice-aggregate-put-bytes
-    put-bytes-requires
-    same-length-5
-    same-length-6
-    same-length-7
-    same-length-8
+    array-share-prefix-tables
+    slice-aggregate-put-run
+    array-borrow-prefix-marks
+    slice-aggregate-put-run-2
+    put-run-requires
     returns-2)
