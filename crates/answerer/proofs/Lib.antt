@@ -1,11 +1,9 @@
 -- The laws of specs/, under its names; Code in a name: what returns of functions cite. BeginningLaws: pruning changes nothing.
--- Fitting, Numbering and Walking are of loops, EachLaws of lists; HeldLaws and DeliveredLaws of what a store of row messages holds.
+-- Fitting and Walking are of loops; HeldLaws and DeliveredLaws of what a store of row messages holds.
 -- Promised gathers what is promised of the answer; Examples and StoreExamples compute the answers of the same day.
 pub mod Examples
 pub mod StoreExamples
-pub mod EachLaws
 pub mod BeginningLaws
-pub mod NumberingLaws
 pub mod SourceLaws
 pub mod SourceCodeLaws
 pub mod BeginningCodeLaws

@@ -10,7 +10,7 @@ use Rattle.ground.proofs.OutcomeLaws.{never, leaves-refused}
 use Rattle.fields.specs.Puts.{writtenOf, writtenIn}
 use Rattle.fields.specs.declared.puts.Written.{Written}
 use Rattle.fields.proofs.PutLaws.{Writes}
-use Rattle.boundary.specs.Answers.{answerWord, writtenWord}
+use Rattle.boundary.specs.Answers.{answerNumber, writtenNumber}
 
 module _ {A B : Type 0} (o : Outcome A) (k : A → ℕ → Outcome B) (Said : Outcome B → Type 0) where
   pub refused-says : (m u : ℕ) → o ≡ bad m u → Said (bad m u) → Said (next o k)
@@ -22,16 +22,16 @@ module _ {A B : Type 0} (o : Outcome A) (k : A → ℕ → Outcome B) (Said : Ou
 -- ---- a call that writes: its answer as one number, and the buffer afterwards
 
 abbrev pub Gives : List ℕ → ℕ → List ℕ → Outcome (List ℕ) → Type 0
-Gives out r after o = (r ≡ writtenWord (writtenOf o)) × (after ≡ writtenIn out o)
+Gives out r after o = (r ≡ writtenNumber (writtenOf o)) × (after ≡ writtenIn out o)
 
 module _ {A : Type 0} (o : Outcome A) (k : A → ℕ → Outcome (List ℕ)) (out : List ℕ) where
-  pub gives-refused : (m u r : ℕ) → o ≡ bad m u → r ≡ answerWord m u → Gives out r out (next o k)
-  unfolding writtenOf writtenWord leaves
+  pub gives-refused : (m u r : ℕ) → o ≡ bad m u → r ≡ answerNumber m u → Gives out r out (next o k)
+  unfolding writtenOf writtenNumber leaves
   gives-refused m u r e h = refused-says o k (Gives out r out) m u e (h, refl)
 
-  pub gives-taken : (a : A) (u : ℕ) → o ≡ good a u → (z : Written) (after : List ℕ) (r : ℕ) → Writes 0 out (k a u) z after → r ≡ writtenWord z
+  pub gives-taken : (a : A) (u : ℕ) → o ≡ good a u → (z : Written) (after : List ℕ) (r : ℕ) → Writes 0 out (k a u) z after → r ≡ writtenNumber z
       → Gives out r after (next o k)
-  gives-taken a u e z after r l h = taken-says o k (Gives out r after) a u e (h ∙ ap writtenWord (l .0), l .1)
+  gives-taken a u e z after r l h = taken-says o k (Gives out r after) a u e (h ∙ ap writtenNumber (l .0), l .1)
 
 -- ---- what is left
 

@@ -74,7 +74,7 @@ own-papers x fine words n q u h =
 -- ---- an end that was read, and one that is written over it
 
 module _ (e p s : List ℕ) where
-  end-parts : (x : End) (at : ℕ) → endIn e p s ≡ good x at
+  pub end-parts : (x : End) (at : ℕ) → endIn e p s ≡ good x at
       → (19 ≤ length s) × (q : Papers) × (papersIn e p ≡ good q at) × (x ≡ endOf q s)
   unfolding endIn
   end-parts x at h =

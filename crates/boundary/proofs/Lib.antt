@@ -4,7 +4,7 @@
 pub mod AnswerLaws
 pub mod StateLaws
 pub mod RememberedLaws
-pub mod GivenLaws
+pub mod GivenCodeLaws
 pub mod CallLaws
 pub mod PlanningCodeLaws
 pub mod PlannedLaws

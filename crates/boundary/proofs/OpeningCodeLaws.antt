@@ -26,7 +26,7 @@ use Rattle.ends.specs.Ends.{Marked, noEnd}
 use Rattle.station.specs.Opening.{openWith, openOf, shownOpened, openedMarks}
 use Rattle.ends.specs.declared.ends.End.{End}
 use Rattle.station.specs.declared.opening.Opened.{Opened}
-use Rattle.boundary.specs.Answers.{answerWord, verdictWord}
+use Rattle.boundary.specs.Answers.{answerNumber, verdictNumber}
 use Rattle.boundary.specs.States.{stateAfter}
 use Rattle.boundary.specs.Given.{papersIn}
 use Rattle.boundary.specs.Stations.{openGiven, openFrom, openedState}
@@ -140,20 +140,20 @@ module _ (e : Envelope) (p : Program) (site run : ℕ) (words : List ℕ) where
 
 module _ (e p : List ℕ) (site run : ℕ) (words marks s : List ℕ) (c : PapersRead) (g : c ≡ shownPapers (papersIn e p)) where
   abbrev Opening : ℕ → List ℕ → List ℕ → Outcome Marked → Type 0
-  Opening r after last o = (r ≡ verdictWord (verdictOf o)) × (after ≡ openedMarks marks o) × (last ≡ openedState s o)
+  Opening r after last o = (r ≡ verdictNumber (verdictOf o)) × (after ≡ openedMarks marks o) × (last ≡ openedState s o)
 
   abbrev opening : Papers → Outcome Marked
   opening q = openGiven (q .envelope) (q .program) site run words marks s
 
-  pub open-refused : (m u r : ℕ) → c .verdict ≡ Refused m u → r ≡ answerWord m u → Opening r marks s (openFrom e p site run words marks s)
-  unfolding openFrom verdictOf verdictWord leaves
+  pub open-refused : (m u r : ℕ) → c .verdict ≡ Refused m u → r ≡ answerNumber m u → Opening r marks s (openFrom e p site run words marks s)
+  unfolding openFrom verdictOf verdictNumber leaves
   open-refused m u r t k =
       refused-says (papersIn e p) (λ q _. opening q) (Opening r marks s) m u (papers-refused (papersIn e p) c m u g t) (k, refl, refl)
 
   pub open-taken : c .verdict ≡ Taken → (v : Verdict) (after last : List ℕ) (r : ℕ)
       → (v ≡ verdictOf (opening (c .papers))) × (after ≡ openedMarks marks (opening (c .papers))) × (last ≡ openedState s (opening (c .papers)))
-      → r ≡ verdictWord v → Opening r after last (openFrom e p site run words marks s)
+      → r ≡ verdictNumber v → Opening r after last (openFrom e p site run words marks s)
   unfolding openFrom
   open-taken t v after last r l k =
       taken-says (papersIn e p) (λ q _. opening q) (Opening r after last) (c .papers) _ (papers-taken (papersIn e p) c g t)
-      (k ∙ ap verdictWord (l .0), l .1, l .2)
+      (k ∙ ap verdictNumber (l .0), l .1, l .2)

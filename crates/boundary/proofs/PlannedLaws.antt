@@ -6,9 +6,9 @@ use Prim.Native.Nat.{ℕ, zero, suc, _-_}
 use lib.ListN.{length, take, replicate}
 use Rattle.ground.specs.Bytes.{Bytes}
 use Rattle.ground.specs.Lists.{padded}
-use Rattle.ground.specs.Outcome.{Outcome}
+use Rattle.ground.specs.Outcome.{Outcome, next}
 use Rattle.ground.specs.Outcome.Outcome.{good}
-use Rattle.fields.specs.Puts.{writtenOf, writtenIn}
+use Rattle.fields.specs.Puts.{fitted, writtenOf, writtenIn}
 use Rattle.fields.specs.declared.puts.Written.the-variants.{Length}
 use Rattle.fields.proofs.PutLaws.{written-back}
 use Rattle.contents.specs.declared.envelope.Envelope.{Envelope}
@@ -16,11 +16,11 @@ use Rattle.envelopes.specs.Envelope.{readEnvelope}
 use Rattle.envelopes.specs.Rules.{Within}
 use Rattle.envelopes.proofs.ExactEnvelope.{envelope-exact}
 use Rattle.paths.specs.declared.steps.Step.{Step}
-use Rattle.papers.specs.Programs.{noStep, programWith, programBytes, readProgram, checkProgram, Acceptable, tidyProgram}
+use Rattle.papers.specs.Programs.{noStep, programWith, programBytes, readProgram, checkProgram, writeProgramOf, Acceptable, tidyProgram}
 use Rattle.papers.specs.declared.programs.Program.{Program}
 use Rattle.papers.proofs.ExactPrograms.{read-complete}
 use Rattle.estimates.specs.Costs.{plainCosts}
-use Rattle.estimates.specs.Estimate.{lineSteps, line, linesOf, estimated}
+use Rattle.estimates.specs.Estimate.{lineSteps, noLine, linesOf, estimated}
 use Rattle.estimates.specs.Profile.{localProfile}
 use Rattle.estimates.specs.declared.lines.Line.{Line}
 use Rattle.estimates.proofs.EstimateLaws.{lines-length, lines-steps}
@@ -28,7 +28,7 @@ use Rattle.planner.specs.Plan.{planFor, planOf, planned}
 use Rattle.planner.proofs.PlanLaws.{plan-part, plan-legal, plan-site, part-few}
 use Rattle.planner.proofs.DropCodeLaws.{with-steps, with-acceptable}
 use Rattle.boundary.specs.Given.{papersIn}
-use Rattle.boundary.specs.Planning.{programOf, programFor, checkPlan, planFrom}
+use Rattle.boundary.specs.Planning.{programOf, programFor, planFrom}
 
 map-alike : {A B : Type 0} (f : A → B) (n : ℕ) (z : A) → map f (replicate n z) ≡ replicate n (f z)
 map-alike f zero z = refl
@@ -42,12 +42,12 @@ module _ (e : Envelope) where
   abbrev lines : List Line
   lines = linesOf plainCosts e (localProfile e) steps
 
-  steps-stand : lineSteps (padded 156 (line noStep 0 0) lines) ≡ padded 156 noStep steps
+  steps-stand : lineSteps (padded 156 noLine lines) ≡ padded 156 noStep steps
   unfolding lineSteps padded
   steps-stand =
-      map-append (λ (l : Line). l .step) lines (replicate (156 - length lines) (line noStep 0 0))
+      map-append (λ (l : Line). l .step) lines (replicate (156 - length lines) noLine)
       ∙ rw (lines-steps plainCosts e (localProfile e) steps, lines-length plainCosts e (localProfile e) steps)
-      (ap (λ (l : List Step). steps ++ l) (map-alike (λ (l : Line). l .step) (156 - length steps) (line noStep 0 0)))
+      (ap (λ (l : List Step). steps ++ l) (map-alike (λ (l : Line). l .step) (156 - length steps) noLine))
 
   as-handed : programOf (planFor plainCosts e) ≡ programWith (planned plainCosts e .site) steps
   unfolding programOf planFor estimated
@@ -82,9 +82,9 @@ module _ (s : List ℕ) (bytes : Bytes s) (e : Envelope) (at : ℕ) (read : read
       ∙ ap (λ (p : Program). good p (length (programBytes (programFor s)))) (ap tidyProgram is-handed ∙ handed-tidy e within ∙ sym is-handed)
 
   -- so plan is refused by 11 alone
-  pub plan-good : checkPlan s ≡ good (programFor s) (length (programBytes (programFor s)))
-  unfolding checkPlan checkProgram
-  plan-good = rw read plan-back
+  pub plan-good : (room : ℕ) → planFrom s room ≡ fitted room (programBytes (programFor s))
+  unfolding planFrom writeProgramOf checkProgram
+  plan-good room = rw (read, plan-back)
 
   -- both papers, as every call that takes a program reads them
   pub plan-papers : papersIn s (programBytes (programFor s)) ≡ good (record { envelope = e; program = programFor s }) (length (programBytes (programFor s)))
@@ -94,7 +94,8 @@ module _ (s : List ℕ) (bytes : Bytes s) (e : Envelope) (at : ℕ) (read : read
   -- and so is what plan leaves at the front of the buffer, as far as the length that it answers
   pub plan-left : (out : List ℕ) (n : ℕ) → writtenOf (planFrom s (length out)) ≡ Length n
       → papersIn s (take n (writtenIn out (planFrom s (length out)))) ≡ good (record { envelope = e; program = programFor s }) n
-  unfolding planFrom
+  unfolding planFrom writeProgramOf
   plan-left out n w =
-      let (_, _, _, long, same) = written-back (checkPlan s) (programBytes (programFor s)) out n w in
-      rw same (plan-papers ∙ ap (good (record { envelope = e; program = programFor s })) (sym long))
+      let wrote : planFrom s (length out) ≡ next (checkProgram e (programFor s)) (λ _ _. fitted (length out) (programBytes (programFor s))) = rw read in
+      let (_, _, _, long, same) = written-back (checkProgram e (programFor s)) (programBytes (programFor s)) out n (rw wrote at w) in
+      rw (wrote, same) (plan-papers ∙ ap (good (record { envelope = e; program = programFor s })) (sym long))

@@ -7,10 +7,9 @@ use native.Mathlib.Omega.{arith}
 use lib.ListN.{length, getD, take, drop, set, length-append, length-map, length-take, drop-of-length-le}
 use lib.Seq.{sets, sets-eq, take-all}
 use Rattle.ground.specs.Lists.{each}
-use Rattle.ground.specs.Outcome.{Outcome, next}
+use Rattle.ground.specs.Outcome.{Outcome}
 use Rattle.ground.specs.declared.Verdict.{Verdict}
 use Rattle.ground.specs.declared.Verdict.the-variants.{Taken, Refused}
-use Rattle.ground.proofs.OutcomeLaws.{next-next}
 use Rattle.ground.proofs.ListLaws.{getD-map}
 use Rattle.ground.proofs.PuttingLaws.{Copying, copying-more, copying-done, sets-append}
 use Rattle.ground.proofs.WritingLaws.{Writing, writing-more}
@@ -20,10 +19,9 @@ use Rattle.fields.specs.declared.puts.Written.{Written}
 use Rattle.fields.specs.declared.puts.Written.the-variants as written
 use Rattle.fields.proofs.PutLaws.{Writes, writes-bad, writes-good, fitted-short, fitted-fits}
 use Rattle.envelopes.specs.Envelope.{readEnvelope, shownEnvelope}
-use Rattle.contents.specs.declared.envelope.Envelope.{Envelope}
 use Rattle.envelopes.specs.declared.reading.EnvelopeRead.{EnvelopeRead}
 use Rattle.envelopes.proofs.ReadingLaws.{read-taken, read-refused}
-use Rattle.papers.specs.Programs.{programBytes, checkProgram, writeProgramOf}
+use Rattle.papers.specs.Programs.{writeProgramOf}
 use Rattle.papers.specs.Checks.{papersOf, shownPapers}
 use Rattle.paths.specs.declared.steps.Step.{Step}
 use Rattle.papers.specs.declared.programs.Program.{Program}
@@ -35,9 +33,9 @@ use Rattle.planner.specs.Plan.{planOf}
 use Rattle.estimates.specs.declared.lines.Line.{Line}
 use Rattle.planner.specs.declared.plans.Plan.{Plan}
 use Rattle.estimates.specs.declared.lines.Estimate.{Estimate}
-use Rattle.boundary.specs.Answers.{answerWord, writtenWord}
+use Rattle.boundary.specs.Answers.{answerNumber, writtenNumber}
 use Rattle.boundary.specs.Given.{papersIn}
-use Rattle.boundary.specs.Planning.{programOf, programFor, checkPlan, planFrom, pairOf, lineWords, estimateWords, unless, estimateWith, estimateFrom}
+use Rattle.boundary.specs.Planning.{programOf, programFor, planFrom, pairOf, lineWords, estimateWords, unless, estimateWith, estimateFrom}
 use Rattle.boundary.proofs.CallLaws.{Gives, gives-refused, gives-taken}
 
 -- ---- the steps of a plan's lines
@@ -78,25 +76,18 @@ program-is s x steps e f = rw f (ap programOf e)
 -- ---- planning
 
 module _ (s out : List ℕ) (c : EnvelopeRead) (g : c ≡ shownEnvelope (readEnvelope s)) where
-  -- the program is written for the envelope as any program is
-  as-written : planFrom s (length out) ≡ next (readEnvelope s) (λ e _. writeProgramOf e (programFor s) (length out))
-  unfolding planFrom checkPlan writeProgramOf
-  as-written =
-      next-next (readEnvelope s) (λ (e : Envelope) (_ : ℕ). checkProgram e (programFor s))
-      (λ (_ : Program) (_ : ℕ). fitted (length out) (programBytes (programFor s)))
-
-  pub plan-refused : (m u r : ℕ) → c .verdict ≡ Refused m u → r ≡ answerWord m u → Gives out r out (planFrom s (length out))
+  pub plan-refused : (m u r : ℕ) → c .verdict ≡ Refused m u → r ≡ answerNumber m u → Gives out r out (planFrom s (length out))
+  unfolding planFrom
   plan-refused m u r t k =
-      rw as-written
-      (gives-refused (readEnvelope s) (λ e _. writeProgramOf e (programFor s) (length out)) out m u r (read-refused (readEnvelope s) c m u g t) k)
+      gives-refused (readEnvelope s) (λ e _. writeProgramOf e (programFor s) (length out)) out m u r (read-refused (readEnvelope s) c m u g t) k
 
   pub plan-taken : c .verdict ≡ Taken → (h : Program) (v : Written) (after : List ℕ) (r : ℕ) → h ≡ programFor s
-      → Writes 0 out (writeProgramOf (c .envelope) h (length out)) v after → r ≡ writtenWord v → Gives out r after (planFrom s (length out))
+      → Writes 0 out (writeProgramOf (c .envelope) h (length out)) v after → r ≡ writtenNumber v → Gives out r after (planFrom s (length out))
+  unfolding planFrom
   plan-taken t h v after r e l k =
-      rw as-written
-      (gives-taken (readEnvelope s) (λ e _. writeProgramOf e (programFor s) (length out)) out (c .envelope) _ (read-taken (readEnvelope s) c g t) v after r
+      gives-taken (readEnvelope s) (λ e _. writeProgramOf e (programFor s) (length out)) out (c .envelope) _ (read-taken (readEnvelope s) c g t) v after r
       (rw e at l)
-      k)
+      k
 
 -- ---- words put
 
@@ -191,13 +182,13 @@ module _ (e p out : List ℕ) (c : PapersRead) (g : c ≡ shownPapers (papersIn 
   abbrev costing : Papers → ℕ → Outcome (List ℕ)
   costing q _ = estimateWith (estimateOf (papersOf (q .envelope) (q .program))) (length out)
 
-  pub estimate-refused : (m u r : ℕ) → c .verdict ≡ Refused m u → r ≡ answerWord m u → Gives out r out (estimateFrom e p (length out))
+  pub estimate-refused : (m u r : ℕ) → c .verdict ≡ Refused m u → r ≡ answerNumber m u → Gives out r out (estimateFrom e p (length out))
   unfolding estimateFrom
   estimate-refused m u r t k = gives-refused (papersIn e p) costing out m u r (papers-refused (papersIn e p) c m u g t) k
 
   pub estimate-taken : c .verdict ≡ Taken → (x : Estimate) (z : Written) (after : List ℕ) (r : ℕ)
       → x ≡ estimateOf (papersOf (c .papers .envelope) (c .papers .program)) → Writes 0 out (estimateWith x (length out)) z after
-      → r ≡ writtenWord z → Gives out r after (estimateFrom e p (length out))
+      → r ≡ writtenNumber z → Gives out r after (estimateFrom e p (length out))
   unfolding estimateFrom
   estimate-taken t x z after r f l k =
       gives-taken (papersIn e p) costing out (c .papers) _ (papers-taken (papersIn e p) c g t) z after r (rw f at l) k

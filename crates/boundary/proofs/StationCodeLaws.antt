@@ -17,13 +17,13 @@ use Rattle.station.specs.Receiving.{Held, receiveOf, shownReceived, receivedMar
 use Rattle.ends.specs.declared.ends.End.{End}
 use Rattle.station.specs.declared.receiving.Received.{Received}
 use Rattle.answerer.specs.Assembly.{assembledOutcome}
-use Rattle.boundary.specs.Answers.{answerWord, verdictWord, writtenWord}
+use Rattle.boundary.specs.Answers.{answerNumber, verdictNumber, writtenNumber}
 use Rattle.boundary.specs.States.{stateAfter}
 use Rattle.boundary.specs.Given.{endIn, shownEnd}
 use Rattle.boundary.specs.Stations.{makeValuesFrom, makeRowsFrom, receiveGiven, receiveFrom, receivedState, answerEndFrom}
 use Rattle.boundary.specs.declared.given.EndRead.{EndRead}
 use Rattle.boundary.proofs.CallLaws.{refused-says, taken-says, Gives, gives-refused, gives-taken, leaves-same, leaves-taken}
-use Rattle.boundary.proofs.GivenLaws.{end-taken, end-refused}
+use Rattle.boundary.proofs.GivenCodeLaws.{end-taken, end-refused}
 
 -- ---- a call that writes: making, and answering
 
@@ -31,43 +31,43 @@ module _ (e p s : List ℕ) (c : EndRead) (g : c ≡ shownEnd (endIn e p s)) (ou
   abbrev called : Outcome (List ℕ)
   called = next (endIn e p s) (λ x _. call x)
 
-  call-refused : (m u r : ℕ) → c .verdict ≡ Refused m u → r ≡ answerWord m u → Gives out r out called
+  call-refused : (m u r : ℕ) → c .verdict ≡ Refused m u → r ≡ answerNumber m u → Gives out r out called
   call-refused m u r t k = gives-refused (endIn e p s) (λ x _. call x) out m u r (end-refused (endIn e p s) c m u g t) k
 
-  call-taken : c .verdict ≡ Taken → (z : Written) (after : List ℕ) (r : ℕ) → Writes 0 out (call (c .end)) z after → r ≡ writtenWord z
+  call-taken : c .verdict ≡ Taken → (z : Written) (after : List ℕ) (r : ℕ) → Writes 0 out (call (c .end)) z after → r ≡ writtenNumber z
       → Gives out r after called
   call-taken t z after r l k = gives-taken (endIn e p s) (λ x _. call x) out (c .end) _ (end-taken (endIn e p s) c g t) z after r l k
 
 module _ (e p s words marks : List ℕ) (n : ℕ) (out : List ℕ) (c : EndRead) (g : c ≡ shownEnd (endIn e p s)) where
-  pub values-refused : (m u r : ℕ) → c .verdict ≡ Refused m u → r ≡ answerWord m u → Gives out r out (makeValuesFrom e p s words marks n (length out))
+  pub values-refused : (m u r : ℕ) → c .verdict ≡ Refused m u → r ≡ answerNumber m u → Gives out r out (makeValuesFrom e p s words marks n (length out))
   unfolding makeValuesFrom
   values-refused = call-refused e p s c g out (λ x. makeValuesOf x words marks n (length out))
 
   pub values-taken : c .verdict ≡ Taken → (z : Written) (after : List ℕ) (r : ℕ)
-      → Writes 0 out (makeValuesOf (c .end) words marks n (length out)) z after → r ≡ writtenWord z
+      → Writes 0 out (makeValuesOf (c .end) words marks n (length out)) z after → r ≡ writtenNumber z
       → Gives out r after (makeValuesFrom e p s words marks n (length out))
   unfolding makeValuesFrom
   values-taken = call-taken e p s c g out (λ x. makeValuesOf x words marks n (length out))
 
-  pub rows-refused : (m u r : ℕ) → c .verdict ≡ Refused m u → r ≡ answerWord m u → Gives out r out (makeRowsFrom e p s words marks n (length out))
+  pub rows-refused : (m u r : ℕ) → c .verdict ≡ Refused m u → r ≡ answerNumber m u → Gives out r out (makeRowsFrom e p s words marks n (length out))
   unfolding makeRowsFrom
   rows-refused = call-refused e p s c g out (λ x. makeRowsOf x words marks n (length out))
 
   pub rows-taken : c .verdict ≡ Taken → (z : Written) (after : List ℕ) (r : ℕ)
-      → Writes 0 out (makeRowsOf (c .end) words marks n (length out)) z after → r ≡ writtenWord z
+      → Writes 0 out (makeRowsOf (c .end) words marks n (length out)) z after → r ≡ writtenNumber z
       → Gives out r after (makeRowsFrom e p s words marks n (length out))
   unfolding makeRowsFrom
   rows-taken = call-taken e p s c g out (λ x. makeRowsOf x words marks n (length out))
 
 module _ (e p s store out : List ℕ) (c : EndRead) (g : c ≡ shownEnd (endIn e p s)) where
-  pub answer-refused : (m u r : ℕ) → c .verdict ≡ Refused m u → r ≡ answerWord m u → Gives out r out (answerEndFrom e p s store out)
+  pub end-answer-refused : (m u r : ℕ) → c .verdict ≡ Refused m u → r ≡ answerNumber m u → Gives out r out (answerEndFrom e p s store (length out))
   unfolding answerEndFrom
-  answer-refused = call-refused e p s c g out (λ x. assembledOutcome x store out)
+  end-answer-refused = call-refused e p s c g out (λ x. assembledOutcome x store (length out))
 
-  pub answer-taken : c .verdict ≡ Taken → (z : Written) (after : List ℕ) (r : ℕ) → Writes 0 out (assembledOutcome (c .end) store out) z after
-      → r ≡ writtenWord z → Gives out r after (answerEndFrom e p s store out)
+  pub end-answer-taken : c .verdict ≡ Taken → (z : Written) (after : List ℕ) (r : ℕ) → Writes 0 out (assembledOutcome (c .end) store (length out)) z after
+      → r ≡ writtenNumber z → Gives out r after (answerEndFrom e p s store (length out))
   unfolding answerEndFrom
-  answer-taken = call-taken e p s c g out (λ x. assembledOutcome x store out)
+  end-answer-taken = call-taken e p s c g out (λ x. assembledOutcome x store (length out))
 
 -- ---- receiving
 
@@ -123,14 +123,14 @@ module _ (x : End) (s words marks store m : List ℕ) where
 module _ (e p s words marks store m : List ℕ) (c : EndRead) (g : c ≡ shownEnd (endIn e p s)) where
   abbrev Receiving : ℕ → List ℕ → List ℕ → List ℕ → Outcome Held → Type 0
   Receiving r last after held o =
-      (r ≡ verdictWord (verdictOf o)) × (last ≡ receivedState s o) × (after ≡ receivedMarks marks o) × (held ≡ receivedStore store o)
+      (r ≡ verdictNumber (verdictOf o)) × (last ≡ receivedState s o) × (after ≡ receivedMarks marks o) × (held ≡ receivedStore store o)
 
   abbrev receiving : End → Outcome Held
   receiving x = receiveGiven x words marks store m
 
-  pub all-refused : (n u r : ℕ) → c .verdict ≡ Refused n u → r ≡ answerWord n u
+  pub all-refused : (n u r : ℕ) → c .verdict ≡ Refused n u → r ≡ answerNumber n u
       → Receiving r s marks store (receiveFrom e p s words marks store m)
-  unfolding receiveFrom verdictOf verdictWord leaves
+  unfolding receiveFrom verdictOf verdictNumber leaves
   all-refused n u r t k =
       refused-says (endIn e p s) (λ x _. receiving x) (Receiving r s marks store) n u (end-refused (endIn e p s) c n u g t) (k, refl, refl, refl)
 
@@ -138,9 +138,9 @@ module _ (e p s words marks store m : List ℕ) (c : EndRead) (g : c ≡ shownEn
       → (v ≡ verdictOf (receiving (c .end)))
       × (last ≡ receivedState s (receiving (c .end)))
       × (after ≡ receivedMarks marks (receiving (c .end)))
-      × (held ≡ receivedStore store (receiving (c .end))) → r ≡ verdictWord v
+      × (held ≡ receivedStore store (receiving (c .end))) → r ≡ verdictNumber v
       → Receiving r last after held (receiveFrom e p s words marks store m)
   unfolding receiveFrom
   all-taken t v last after held r l k =
       taken-says (endIn e p s) (λ x _. receiving x) (Receiving r last after held) (c .end) _ (end-taken (endIn e p s) c g t)
-      (k ∙ ap verdictWord (l .0), l .1, l .2, l .3)
+      (k ∙ ap verdictNumber (l .0), l .1, l .2, l .3)

@@ -2,23 +2,27 @@
 -- length written stands for the position, or 0 where nothing is written. A position or a length that a word cannot say is
 -- said as the greatest word.
 use Prim.Native.Nat.{ℕ, _+_, _*_, min}
+use Rattle.ground.specs.Least.{top}
 use Rattle.ground.specs.declared.Verdict.{Verdict}
 use Rattle.ground.specs.declared.Verdict.the-variants as verdict
 use Rattle.fields.specs.declared.puts.Written.{Written}
 use Rattle.fields.specs.declared.puts.Written.the-variants as written
 
 -- a number as a word
-unfoldable pub asWord : ℕ → ℕ
-asWord n = min n 4294967295
+abbrev pub greatestWord : ℕ
+greatestWord = 4294967295
 
-unfoldable pub answerWord : ℕ → ℕ → ℕ
-answerWord number value = number * 4294967296 + asWord value
+unfoldable pub asWord : ℕ → ℕ
+asWord n = min n greatestWord
+
+unfoldable pub answerNumber : ℕ → ℕ → ℕ
+answerNumber number value = number * top + asWord value
 
 -- what the calls below answer, as that number
-unfoldable pub verdictWord : Verdict → ℕ
-verdictWord verdict.Taken = answerWord 0 0
-verdictWord (verdict.Refused n p) = answerWord n p
+unfoldable pub verdictNumber : Verdict → ℕ
+verdictNumber verdict.Taken = answerNumber 0 0
+verdictNumber (verdict.Refused n p) = answerNumber n p
 
-unfoldable pub writtenWord : Written → ℕ
-writtenWord (written.Length n) = answerWord 0 n
-writtenWord (written.Refused n p) = answerWord n p
+unfoldable pub writtenNumber : Written → ℕ
+writtenNumber (written.Length n) = answerNumber 0 n
+writtenNumber (written.Refused n p) = answerNumber n p

@@ -2,18 +2,16 @@
 -- is 11 at 0, before the papers; an arrived word that is neither 0 nor 1 is 4 at 0, right after them.
 use Prim.Native.Nat.{ℕ}
 use mathlib.Core.List.{List, [], _∷_}
-use lib.ListN.{length}
-use lib.Dec.{ltb}
 use Rattle.ground.specs.Outcome.{Outcome, next, verdictOf, valueOf}
 use Rattle.ground.specs.Outcome.Outcome.{good}
 use Rattle.ground.specs.Refusing.{test, judged}
-use Rattle.fields.specs.Refusals.{beyondLimit, tooShort}
+use Rattle.fields.specs.Refusals.{beyondLimit}
 use Rattle.envelopes.specs.Envelope.{readEnvelope}
 use Rattle.papers.specs.Programs.{readProgram}
 use Rattle.papers.specs.declared.checks.Papers.{Papers}
 use Rattle.ends.specs.Ends.{noEnd}
 use Rattle.ends.specs.declared.ends.End.{End}
-use Rattle.boundary.specs.States.{stateLength, unclear, endOf}
+use Rattle.boundary.specs.States.{stateTest, unclear, endOf}
 use Rattle.boundary.specs.declared.given.EndRead.{EndRead}
 
 unfoldable pub papersIn : List ℕ → List ℕ → Outcome Papers
@@ -24,7 +22,7 @@ papersIn e p =
 
 unfoldable pub endIn : List ℕ → List ℕ → List ℕ → Outcome End
 endIn e p s =
-    judged (test (ltb (length s) stateLength) tooShort 0 ∷ [])
+    judged (stateTest s ∷ [])
     (next (papersIn e p)
     (λ q at. judged (test (unclear s) beyondLimit 0 ∷ []) (good (endOf q s) at)))
 

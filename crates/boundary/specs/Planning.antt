@@ -4,13 +4,14 @@ use Prim.Native.Nat.{ℕ, _%_, _/_}
 use mathlib.Core.List.{List, [], _∷_, _++_}
 use lib.ListN.{take}
 use Rattle.ground.specs.Lists.{each}
+use Rattle.ground.specs.Least.{top}
 use Rattle.ground.specs.Outcome.{Outcome, next}
 use Rattle.ground.specs.Outcome.Outcome.{bad}
 use Rattle.ground.specs.declared.Verdict.{Verdict}
 use Rattle.ground.specs.declared.Verdict.the-variants as verdict
 use Rattle.fields.specs.Puts.{fitted}
 use Rattle.envelopes.specs.Envelope.{readEnvelope}
-use Rattle.papers.specs.Programs.{programBytes, checkProgram}
+use Rattle.papers.specs.Programs.{writeProgramOf}
 use Rattle.papers.specs.Checks.{papersOf}
 use Rattle.papers.specs.declared.programs.Program.{Program}
 use Rattle.estimates.specs.Estimate.{lineSteps, estimateOf}
@@ -28,18 +29,15 @@ programOf x = record { site = x .site; count = x .count; steps = lineSteps (x .l
 unfoldable pub programFor : List ℕ → Program
 programFor s = programOf (planOf (readEnvelope s))
 
--- checked before it is written, as any program is
-unfoldable pub checkPlan : List ℕ → Outcome Program
-checkPlan s = next (readEnvelope s) (λ e _. checkProgram e (programFor s))
-
+-- written as any program is, so checked first
 unfoldable pub planFrom : List ℕ → ℕ → Outcome (List ℕ)
-planFrom s room = next (checkPlan s) (λ _ _. fitted room (programBytes (programFor s)))
+planFrom s room = next (readEnvelope s) (λ e _. writeProgramOf e (programFor s) room)
 
 -- ---- the estimate
 
 -- a number as two words
 unfoldable pub pairOf : ℕ → List ℕ
-pairOf n = n % 4294967296 ∷ n / 4294967296 ∷ []
+pairOf n = n % top ∷ n / top ∷ []
 
 unfoldable pub lineWords : Line → List ℕ
 lineWords l = pairOf (l .benefit) ++ pairOf (l .cost)

@@ -10,5 +10,5 @@ use Rattle.boundary.specs.Given.{papersIn}
 unfoldable pub runFrom : List ℕ → List ℕ → List ℕ → List ℕ → Outcome (List ℕ)
 runFrom e p words marks = next (papersIn e p) (λ q _. runOutcome (q .envelope) (q .program) words marks)
 
-unfoldable pub answerFrom : List ℕ → List ℕ → List ℕ → Outcome (List ℕ)
-answerFrom e words out = next (readEnvelope e) (λ f _. answerOutcome f words out)
+unfoldable pub answerFrom : List ℕ → List ℕ → ℕ → Outcome (List ℕ)
+answerFrom e words room = next (readEnvelope e) (λ f _. answerOutcome f words room)

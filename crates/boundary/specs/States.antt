@@ -3,11 +3,13 @@
 use Prim.Native.Nat.{ℕ, _+_}
 use mathlib.Core.Bool.{Bool, false}
 use mathlib.Core.List.{List, [], _∷_, _++_, map}
-use lib.ListN.{getD}
+use lib.ListN.{length, getD}
 use lib.Seq.{sets}
 use lib.Dec.{eqb, ltb}
 use Rattle.ground.specs.Tests.{pick}
 use Rattle.ground.specs.Lists.{any, below}
+use Rattle.ground.specs.Refusing.{Test, test}
+use Rattle.fields.specs.Refusals.{tooShort}
 use Rattle.contents.specs.Parts.{relationCount}
 use Rattle.papers.specs.declared.checks.Papers.{Papers}
 use Rattle.ends.specs.declared.ends.End.{End}
@@ -31,6 +33,10 @@ arrivedAt = 11
 
 abbrev pub stateLength : ℕ
 stateLength = 19
+
+-- 11: fewer words than these
+abbrev pub stateTest : List ℕ → Test
+stateTest s = test (ltb (length s) stateLength) tooShort 0
 
 -- the numbers that a relation can have: below 8, written out so that it computes
 abbrev pub relationNumbers : List ℕ

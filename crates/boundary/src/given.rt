@@ -9,7 +9,7 @@ ghost use Rattle.ground.specs.Outcome.{verdictOf};
 ghost use Rattle.ground.specs.Outcome.Outcome.{bad};
 ghost use Rattle.envelopes.specs.Envelope.{readEnvelope};
 ghost use Rattle.papers.specs.Checks.{shownPapers};
-ghost use Rattle.boundary.specs.Answers.{verdictWord};
+ghost use Rattle.boundary.specs.Answers.{verdictNumber};
 ghost use Rattle.boundary.specs.Given.{papersIn, endIn, shownEnd};
 
 // An end, or the refusal with the empty end beside it.
@@ -60,7 +60,7 @@ fn refused_end(number: u8, position: usize) -> EndRead
 pub(crate) fn read_end(envelope: &[u8], program: &[u8], state: &[u32]) -> EndRead
     ensures { λ r. ⌜ r ≡ shownEnd (endIn (now (envelope .entry)) (now (program .entry)) (now (state .entry))) ⌝ }
 {
-    if state.len() < 19 {
+    if state.len() < crate::states::LENGTH {
         return refused_end(refusals::TOO_SHORT, 0);
     }
     let read = read_papers(envelope, program);
@@ -84,7 +84,7 @@ pub(crate) fn read_end(envelope: &[u8], program: &[u8], state: &[u32]) -> EndRea
 // 1: an envelope is read. Taken, 0.
 #[no_mangle]
 pub extern "C" fn legestran_read_envelope(envelope: &[u8]) -> u64
-    ensures { λ r. ⌜ r ≡ verdictWord (verdictOf (readEnvelope (now (envelope .entry)))) ⌝ }
+    ensures { λ r. ⌜ r ≡ verdictNumber (verdictOf (readEnvelope (now (envelope .entry)))) ⌝ }
 {
     let read = envelopes::reading::read_envelope(envelope);
     let verdict = read.verdict;
@@ -94,7 +94,7 @@ pub extern "C" fn legestran_read_envelope(envelope: &[u8]) -> u64
 // 2: an envelope, then a program for it, is read. Taken, 0.
 #[no_mangle]
 pub extern "C" fn legestran_read_program(envelope: &[u8], program: &[u8]) -> u64
-    ensures { λ r. ⌜ r ≡ verdictWord (verdictOf (papersIn (now (envelope .entry)) (now (program .entry)))) ⌝ }
+    ensures { λ r. ⌜ r ≡ verdictNumber (verdictOf (papersIn (now (envelope .entry)) (now (program .entry)))) ⌝ }
 {
     let papers = read_papers(envelope, program);
     let found = papers.verdict;

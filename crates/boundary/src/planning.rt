@@ -14,7 +14,7 @@ ghost use Prim.Native.Nat.{_+_, _≤_};
 ghost use Rattle.ground.specs.Lists.{each};
 ghost use Rattle.fields.specs.Puts.{writtenOf, writtenIn, Puts};
 ghost use Rattle.estimates.specs.Estimate.{lineSteps};
-ghost use Rattle.boundary.specs.Answers.{writtenWord};
+ghost use Rattle.boundary.specs.Answers.{writtenNumber};
 ghost use Rattle.boundary.specs.Planning.{
   programFor,
   planFrom,
@@ -56,7 +56,7 @@ fn program_for(envelope: &[u8]) -> Program
 // 3: the program for an envelope, at the front of program. Taken, the bytes written.
 #[no_mangle]
 pub extern "C" fn legestran_plan(envelope: &[u8], program: &mut [u8]) -> u64
-    ensures { λ r. ⌜ (r ≡ writtenWord (writtenOf (planFrom (now (envelope .entry)) (length (now (program .entry)))))) × (now (program .exit) ≡ writtenIn (now (program .entry)) (planFrom (now (envelope .entry)) (length (now (program .entry))))) ⌝ }
+    ensures { λ r. ⌜ (r ≡ writtenNumber (writtenOf (planFrom (now (envelope .entry)) (length (now (program .entry)))))) × (now (program .exit) ≡ writtenIn (now (program .entry)) (planFrom (now (envelope .entry)) (length (now (program .entry))))) ⌝ }
 {
     let read = envelopes::reading::read_envelope(envelope);
     let verdict = read.verdict;
@@ -140,7 +140,7 @@ fn put_estimate(estimate: Estimate, lines: [Line; 156], out: &mut [u32]) -> Writ
 // 11: what a program is expected to cost, at the front of out. Taken, the words written.
 #[no_mangle]
 pub extern "C" fn legestran_estimate(envelope: &[u8], program: &[u8], out: &mut [u32]) -> u64
-    ensures { λ r. ⌜ (r ≡ writtenWord (writtenOf (estimateFrom (now (envelope .entry)) (now (program .entry)) (length (now (out .entry)))))) × (now (out .exit) ≡ writtenIn (now (out .entry)) (estimateFrom (now (envelope .entry)) (now (program .entry)) (length (now (out .entry))))) ⌝ }
+    ensures { λ r. ⌜ (r ≡ writtenNumber (writtenOf (estimateFrom (now (envelope .entry)) (now (program .entry)) (length (now (out .entry)))))) × (now (out .exit) ≡ writtenIn (now (out .entry)) (estimateFrom (now (envelope .entry)) (now (program .entry)) (length (now (out .entry))))) ⌝ }
 {
     let read = crate::given::read_papers(envelope, program);
     let verdict = read.verdict;

@@ -2,7 +2,7 @@
 use ends::ends::End;
 use papers::checks::Papers;
 ghost use mathlib.Core.Path.{_≡_};
-ghost use Prim.Native.Nat.{_≤_, _<_, min};
+ghost use Prim.Native.Nat.{_≤_, _<_};
 ghost use lib.ListN.{length};
 ghost use Rattle.boundary.specs.States.{stateLength, unclear, endOf, bitOf, appliedWord, stateWords, stateAfter};
 

@@ -12,7 +12,7 @@ ghost use Rattle.ground.specs.Outcome.{verdictOf};
 ghost use Rattle.fields.specs.Puts.{writtenOf, writtenIn};
 ghost use Rattle.station.specs.Opening.{openedMarks};
 ghost use Rattle.station.specs.Receiving.{receivedMarks, receivedStore};
-ghost use Rattle.boundary.specs.Answers.{verdictWord, writtenWord};
+ghost use Rattle.boundary.specs.Answers.{verdictNumber, writtenNumber};
 ghost use Rattle.boundary.specs.States.{stateLength};
 ghost use Rattle.boundary.specs.Stations.{
   openGiven,
@@ -87,7 +87,7 @@ pub extern "C" fn legestran_open(
     marks: &mut [u8],
     state: &mut [u32],
 ) -> u64
-    ensures { λ r. ⌜ (r ≡ verdictWord (verdictOf (openFrom (now (envelope .entry)) (now (program .entry)) site run (now (tables .entry)) (now (marks .entry)) (now (state .entry))))) × (now (marks .exit) ≡ openedMarks (now (marks .entry)) (openFrom (now (envelope .entry)) (now (program .entry)) site run (now (tables .entry)) (now (marks .entry)) (now (state .entry)))) × (now (state .exit) ≡ openedState (now (state .entry)) (openFrom (now (envelope .entry)) (now (program .entry)) site run (now (tables .entry)) (now (marks .entry)) (now (state .entry)))) ⌝ }
+    ensures { λ r. ⌜ (r ≡ verdictNumber (verdictOf (openFrom (now (envelope .entry)) (now (program .entry)) site run (now (tables .entry)) (now (marks .entry)) (now (state .entry))))) × (now (marks .exit) ≡ openedMarks (now (marks .entry)) (openFrom (now (envelope .entry)) (now (program .entry)) site run (now (tables .entry)) (now (marks .entry)) (now (state .entry)))) × (now (state .exit) ≡ openedState (now (state .entry)) (openFrom (now (envelope .entry)) (now (program .entry)) site run (now (tables .entry)) (now (marks .entry)) (now (state .entry)))) ⌝ }
 {
     let read = crate::given::read_papers(envelope, program);
     let verdict = read.verdict;
@@ -114,7 +114,7 @@ pub extern "C" fn legestran_make_values(
     step: u32,
     message: &mut [u32],
 ) -> u64
-    ensures { λ r. ⌜ (r ≡ writtenWord (writtenOf (makeValuesFrom (now (envelope .entry)) (now (program .entry)) (now (state .entry)) (now (tables .entry)) (now (marks .entry)) step (length (now (message .entry)))))) × (now (message .exit) ≡ writtenIn (now (message .entry)) (makeValuesFrom (now (envelope .entry)) (now (program .entry)) (now (state .entry)) (now (tables .entry)) (now (marks .entry)) step (length (now (message .entry))))) ⌝ }
+    ensures { λ r. ⌜ (r ≡ writtenNumber (writtenOf (makeValuesFrom (now (envelope .entry)) (now (program .entry)) (now (state .entry)) (now (tables .entry)) (now (marks .entry)) step (length (now (message .entry)))))) × (now (message .exit) ≡ writtenIn (now (message .entry)) (makeValuesFrom (now (envelope .entry)) (now (program .entry)) (now (state .entry)) (now (tables .entry)) (now (marks .entry)) step (length (now (message .entry))))) ⌝ }
 {
     let read = crate::given::read_end(envelope, program, state);
     let verdict = read.verdict;
@@ -139,7 +139,7 @@ pub extern "C" fn legestran_make_rows(
     relation: u32,
     message: &mut [u32],
 ) -> u64
-    ensures { λ r. ⌜ (r ≡ writtenWord (writtenOf (makeRowsFrom (now (envelope .entry)) (now (program .entry)) (now (state .entry)) (now (tables .entry)) (now (marks .entry)) relation (length (now (message .entry)))))) × (now (message .exit) ≡ writtenIn (now (message .entry)) (makeRowsFrom (now (envelope .entry)) (now (program .entry)) (now (state .entry)) (now (tables .entry)) (now (marks .entry)) relation (length (now (message .entry))))) ⌝ }
+    ensures { λ r. ⌜ (r ≡ writtenNumber (writtenOf (makeRowsFrom (now (envelope .entry)) (now (program .entry)) (now (state .entry)) (now (tables .entry)) (now (marks .entry)) relation (length (now (message .entry)))))) × (now (message .exit) ≡ writtenIn (now (message .entry)) (makeRowsFrom (now (envelope .entry)) (now (program .entry)) (now (state .entry)) (now (tables .entry)) (now (marks .entry)) relation (length (now (message .entry))))) ⌝ }
 {
     let read = crate::given::read_end(envelope, program, state);
     let verdict = read.verdict;
@@ -194,7 +194,7 @@ pub extern "C" fn legestran_receive(
     store: &mut [u32],
     message: &[u32],
 ) -> u64
-    ensures { λ r. ⌜ (r ≡ verdictWord (verdictOf (receiveFrom (now (envelope .entry)) (now (program .entry)) (now (state .entry)) (now (tables .entry)) (now (marks .entry)) (now (store .entry)) (now (message .entry))))) × (now (state .exit) ≡ receivedState (now (state .entry)) (receiveFrom (now (envelope .entry)) (now (program .entry)) (now (state .entry)) (now (tables .entry)) (now (marks .entry)) (now (store .entry)) (now (message .entry)))) × (now (marks .exit) ≡ receivedMarks (now (marks .entry)) (receiveFrom (now (envelope .entry)) (now (program .entry)) (now (state .entry)) (now (tables .entry)) (now (marks .entry)) (now (store .entry)) (now (message .entry)))) × (now (store .exit) ≡ receivedStore (now (store .entry)) (receiveFrom (now (envelope .entry)) (now (program .entry)) (now (state .entry)) (now (tables .entry)) (now (marks .entry)) (now (store .entry)) (now (message .entry)))) ⌝ }
+    ensures { λ r. ⌜ (r ≡ verdictNumber (verdictOf (receiveFrom (now (envelope .entry)) (now (program .entry)) (now (state .entry)) (now (tables .entry)) (now (marks .entry)) (now (store .entry)) (now (message .entry))))) × (now (state .exit) ≡ receivedState (now (state .entry)) (receiveFrom (now (envelope .entry)) (now (program .entry)) (now (state .entry)) (now (tables .entry)) (now (marks .entry)) (now (store .entry)) (now (message .entry)))) × (now (marks .exit) ≡ receivedMarks (now (marks .entry)) (receiveFrom (now (envelope .entry)) (now (program .entry)) (now (state .entry)) (now (tables .entry)) (now (marks .entry)) (now (store .entry)) (now (message .entry)))) × (now (store .exit) ≡ receivedStore (now (store .entry)) (receiveFrom (now (envelope .entry)) (now (program .entry)) (now (state .entry)) (now (tables .entry)) (now (marks .entry)) (now (store .entry)) (now (message .entry)))) ⌝ }
 {
     let read = crate::given::read_end(envelope, program, state);
     let verdict = read.verdict;
@@ -217,7 +217,7 @@ pub extern "C" fn legestran_answer_at_end(
     store: &[u32],
     out: &mut [u32],
 ) -> u64
-    ensures { λ r. ⌜ (r ≡ writtenWord (writtenOf (answerEndFrom (now (envelope .entry)) (now (program .entry)) (now (state .entry)) (now (store .entry)) (now (out .entry))))) × (now (out .exit) ≡ writtenIn (now (out .entry)) (answerEndFrom (now (envelope .entry)) (now (program .entry)) (now (state .entry)) (now (store .entry)) (now (out .entry)))) ⌝ }
+    ensures { λ r. ⌜ (r ≡ writtenNumber (writtenOf (answerEndFrom (now (envelope .entry)) (now (program .entry)) (now (state .entry)) (now (store .entry)) (length (now (out .entry)))))) × (now (out .exit) ≡ writtenIn (now (out .entry)) (answerEndFrom (now (envelope .entry)) (now (program .entry)) (now (state .entry)) (now (store .entry)) (length (now (out .entry))))) ⌝ }
 {
     let read = crate::given::read_end(envelope, program, state);
     let verdict = read.verdict;

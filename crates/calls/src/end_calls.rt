@@ -243,7 +243,7 @@ pub(crate) fn answer_at_end(envelope: &[u8], program: &[u8]) -> bool {
     let length = s.count;
     let held = h.count;
     let room = o.count;
-    put_answered(
+    put_answered_at_end(
         envelope,
         program,
         &state[..length],
@@ -253,7 +253,13 @@ pub(crate) fn answer_at_end(envelope: &[u8], program: &[u8]) -> bool {
     true
 }
 
-fn put_answered(envelope: &[u8], program: &[u8], state: &[u32], store: &[u32], out: &mut [u32]) {
+fn put_answered_at_end(
+    envelope: &[u8],
+    program: &[u8],
+    state: &[u32],
+    store: &[u32],
+    out: &mut [u32],
+) {
     let answer = boundary::stations::legestran_answer_at_end(envelope, program, state, store, out);
     output::put_answer(answer);
     output::put_words(out);

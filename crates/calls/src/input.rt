@@ -28,7 +28,7 @@ pub(crate) struct Count {
 }
 
 // The word that stands at a place among bytes.
-fn word_at(bytes: &[u8], at: usize) -> u32 {
+fn word_from_bytes(bytes: &[u8], at: usize) -> u32 {
     match fields::numbers::number_at(bytes, at, Width::Four) {
         NumberRead::Is(value, _) => value,
         NumberRead::Not { number, position } => 0,
@@ -44,7 +44,7 @@ pub(crate) fn next_word() -> WordRead {
     if n < 4 {
         return WordRead::Cut;
     }
-    WordRead::Word(word_at(&bytes, 0))
+    WordRead::Word(word_from_bytes(&bytes, 0))
 }
 
 // A number inside a call: there the input must not end.
@@ -143,7 +143,7 @@ fn take_words(chunk: &[u8], part: usize, buffer: &mut [u32], from: usize)
 {
     let mut i: usize = 0;
     while i < part {
-        let word = word_at(chunk, 4 * i);
+        let word = word_from_bytes(chunk, 4 * i);
         store_word(buffer, from + i, word);
         i += 1;
     }
@@ -156,7 +156,7 @@ fn take_bytes(chunk: &[u8], part: usize, buffer: &mut [u8], from: usize) -> bool
 {
     let mut i: usize = 0;
     while i < part {
-        let word = word_at(chunk, 4 * i);
+        let word = word_from_bytes(chunk, 4 * i);
         if 255 < word {
             return false;
         }

@@ -5,15 +5,15 @@ use native.Mathlib.Omega.{arith}
 use lib.ListN.{getD}
 use Rattle.ground.proofs.UsedLaws.{used-inside, used-outside}
 use Rattle.entries.specs.Relations.{pastRelation, columnCount}
-use Rattle.contents.specs.Parts.{relationsOf, columnsIn}
+use Rattle.contents.specs.Parts.{relationsOf, relationIn, columnsIn}
 use Rattle.contents.specs.declared.envelope.Envelope.{Envelope}
 
 module _ (e : Envelope) (r : ℕ) where
-  pub relation-inside : r < e .«relation_count» → getD (relationsOf e) r pastRelation ≡ getD (e .relations) r pastRelation
+  pub relation-inside : r < e .«relation_count» → relationIn e r ≡ getD (e .relations) r pastRelation
   unfolding relationsOf
   relation-inside h = used-inside (e .relations) (e .«relation_count») r pastRelation h
 
-  pub relation-outside : e .«relation_count» ≤ r → getD (relationsOf e) r pastRelation ≡ pastRelation
+  pub relation-outside : e .«relation_count» ≤ r → relationIn e r ≡ pastRelation
   unfolding relationsOf
   relation-outside h = used-outside (e .relations) (e .«relation_count») r pastRelation h
 

@@ -29,9 +29,12 @@ targetsOf e = take (e .«target_count») (e .targets)
 abbrev pub relationCount : Envelope → ℕ
 relationCount e = min 8 (e .«relation_count»)
 
--- how many columns a relation of it has
+-- a relation of it, with no column where there is none; how many columns a relation has
+abbrev pub relationIn : Envelope → ℕ → Relation
+relationIn e r = getD (relationsOf e) r pastRelation
+
 unfoldable pub columnsIn : Envelope → ℕ → ℕ
-columnsIn e r = columnCount (getD (relationsOf e) r pastRelation)
+columnsIn e r = columnCount (relationIn e r)
 
 -- ---- one part replaced; behind it the array holds zeros
 

@@ -2,16 +2,14 @@
 -- relation's site, but for the prices of estimates, which are 0 from a site to itself.
 use Prim.Native.Nat.{ℕ}
 use mathlib.Core.Bool.{Bool, _&&_}
-use lib.ListN.{getD}
 use lib.Dec.{eqb, ltb}
 use Rattle.ground.specs.Lists.{any, below}
-use Rattle.entries.specs.Relations.{pastRelation}
-use Rattle.contents.specs.Parts.{relationsOf, relationCount}
+use Rattle.contents.specs.Parts.{relationCount, relationIn}
 use Rattle.contents.specs.declared.envelope.Envelope.{Envelope}
 
 -- the site of a relation; 0, which is a site's number too, where the envelope has no such relation
 unfoldable pub siteOf : Envelope → ℕ → ℕ
-siteOf e r = getD (relationsOf e) r pastRelation .site
+siteOf e r = relationIn e r .site
 
 -- relation r exists and is at a site
 unfoldable pub isAt : Envelope → ℕ → ℕ → Bool

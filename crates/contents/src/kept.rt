@@ -69,7 +69,7 @@ fn targets_name(targets: [Place; 16], n: u8, place: Place) -> bool
 }
 
 // Whether a column is kept: it stands in a clause or target.
-pub(crate) fn is_kept(envelope: Envelope, place: Place) -> bool
+pub(crate) fn is_kept_column(envelope: Envelope, place: Place) -> bool
     ensures { λ r. ⌜ r ≡ kept envelope place ⌝ }
 {
     let clauses = envelope.clauses;
@@ -94,7 +94,7 @@ pub fn kept_columns(envelope: Envelope, relation: u8) -> Columns
             relation: relation,
             column: column,
         };
-        if is_kept(envelope, place) {
+        if is_kept_column(envelope, place) {
             let slot = count as usize;
             numbers[slot] = column;
             count += 1;

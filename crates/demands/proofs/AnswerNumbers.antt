@@ -22,8 +22,8 @@ use Rattle.contents.specs.declared.envelope.Envelope.{Envelope}
 use Rattle.envelopes.specs.Envelope.{checkEnvelope}
 use Rattle.paths.specs.Meaning.{answerWords}
 use Rattle.papers.specs.declared.checks.Papers.{Papers}
-use Rattle.tables.specs.Shape.{shaped}
-use Rattle.ends.specs.Ends.{soundEnd}
+use Rattle.tables.specs.Shape.{shapeTest}
+use Rattle.ends.specs.Ends.{assemblyTest, soundEnd}
 use Rattle.ends.specs.Messages.{runOf, secondOf, aboutOf, counted}
 use Rattle.ends.specs.declared.messages.About.{About}
 use Rattle.ends.specs.declared.messages.About.the-variants.{Step, Rows, Nothing}
@@ -39,20 +39,20 @@ use Rattle.demands.specs.DemandOne.{ownPapers}
 
 -- ---- answering on tables
 
-checked-number : (e : Envelope) (words out : List ℕ) (n u : ℕ) → answerChecked e words out ≡ bad n u → List·Memᴰ n (wrongShape ∷ tooShort ∷ [])
+checked-number : (e : Envelope) (words out : List ℕ) (n u : ℕ) → answerChecked e words (length out) ≡ bad n u → List·Memᴰ n (wrongShape ∷ tooShort ∷ [])
 unfolding answerChecked
-checked-number e words out n u h = go (judged-number (test (not (shaped e words)) wrongShape 0 ∷ []) (fitted (length out) (answerWords e words)) n u h)
+checked-number e words out n u h = go (judged-number (shapeTest e words ∷ []) (fitted (length out) (answerWords e words)) n u h)
   where
     go : List·Memᴰ n (wrongShape ∷ []) ⊎ (fitted (length out) (answerWords e words) ≡ bad n u) → List·Memᴰ n (wrongShape ∷ tooShort ∷ [])
     go (inl m) = Memᴰ·append-left (tooShort ∷ []) m
     go (inr k) = List·Memᴰ·tail (fitted-bad (length out) (answerWords e words) n u k .0)
 
-pub tables-number : (e : Envelope) (words out : List ℕ) (n u : ℕ) → answerOutcome e words out ≡ bad n u
+pub tables-number : (e : Envelope) (words out : List ℕ) (n u : ℕ) → answerOutcome e words (length out) ≡ bad n u
     → (checkEnvelope e ≡ bad n u) ⊎ List·Memᴰ n (wrongShape ∷ tooShort ∷ [])
 unfolding answerOutcome
 tables-number e words out n u h = go (next-bad (checkEnvelope e) _ n u h)
   where
-    go : (checkEnvelope e ≡ bad n u) ⊎ ((f : Envelope) × (p : ℕ) × (checkEnvelope e ≡ good f p) × (answerChecked f words out ≡ bad n u))
+    go : (checkEnvelope e ≡ bad n u) ⊎ ((f : Envelope) × (p : ℕ) × (checkEnvelope e ≡ good f p) × (answerChecked f words (length out) ≡ bad n u))
         → (checkEnvelope e ≡ bad n u) ⊎ List·Memᴰ n (wrongShape ∷ tooShort ∷ [])
     go (inl k) = inl k
     go (inr (f, p, _, k)) = inr (checked-number f words out n u k)
@@ -116,7 +116,7 @@ source-number e x store n u h =
     one-number notSound (test (ltb (length store) (x .used)) notSound 0 ∷ []) (sourceHeld e (x .run) (x .arrived) (heldBy x store)) (refl, tt)
     (held-number e (x .run) (heldBy x store) (x .arrived)) n u h
 
-assembled-number : (e : Envelope) (arrived : List Bool) (s : Source) (words out : List ℕ) (n u : ℕ) → assembled e arrived s words out ≡ bad n u
+assembled-number : (e : Envelope) (arrived : List Bool) (s : Source) (words out : List ℕ) (n u : ℕ) → assembled e arrived s words (length out) ≡ bad n u
     → List·Memᴰ n (waiting ∷ tooShort ∷ [])
 unfolding assembled
 assembled-number e arrived s words out n u h =
@@ -127,24 +127,24 @@ assembled-number e arrived s words out n u h =
     go (inl m) = Memᴰ·append-left (tooShort ∷ []) m
     go (inr k) = List·Memᴰ·tail (fitted-bad (length out) (sourceAnswer e s words) n u k .0)
 
-with-number : (q : Papers) (x : End) (store out : List ℕ) (n u : ℕ) → assembledWith q x store out ≡ bad n u
+with-number : (q : Papers) (x : End) (store out : List ℕ) (n u : ℕ) → assembledWith q x store (length out) ≡ bad n u
     → List·Memᴰ n (notOurs ∷ notSound ∷ waiting ∷ tooShort ∷ [])
 unfolding assembledWith
-with-number q x store out n u h = go (judged-number (test (not (eqb (x .site) (q .program .site))) notOurs 0 ∷ []) _ n u h)
+with-number q x store out n u h = go (judged-number (assemblyTest q x ∷ []) _ n u h)
   where
     rest : (sourceOf (q .envelope) x store ≡ bad n u)
-        ⊎ ((s : Source) × (p : ℕ) × (sourceOf (q .envelope) x store ≡ good s p) × (assembled (q .envelope) (x .arrived) s (heldBy x store) out ≡ bad n u))
+        ⊎ ((s : Source) × (p : ℕ) × (sourceOf (q .envelope) x store ≡ good s p) × (assembled (q .envelope) (x .arrived) s (heldBy x store) (length out) ≡ bad n u))
         → List·Memᴰ n (notSound ∷ waiting ∷ tooShort ∷ [])
     rest (inl z) = List·Memᴰ·head (source-number (q .envelope) x store n u z)
     rest (inr (s, p, _, z)) = List·Memᴰ·tail (assembled-number (q .envelope) (x .arrived) s (heldBy x store) out n u z)
 
     go : List·Memᴰ n (notOurs ∷ [])
-        ⊎ (next (sourceOf (q .envelope) x store) (λ s _. assembled (q .envelope) (x .arrived) s (heldBy x store) out) ≡ bad n u)
+        ⊎ (next (sourceOf (q .envelope) x store) (λ s _. assembled (q .envelope) (x .arrived) s (heldBy x store) (length out)) ≡ bad n u)
         → List·Memᴰ n (notOurs ∷ notSound ∷ waiting ∷ tooShort ∷ [])
     go (inl m) = Memᴰ·append-left (notSound ∷ waiting ∷ tooShort ∷ []) m
     go (inr z) = List·Memᴰ·tail (rest (next-bad (sourceOf (q .envelope) x store) _ n u z))
 
-pub end-number : (x : End) (store out : List ℕ) (n u : ℕ) → assembledOutcome x store out ≡ bad n u
+pub end-number : (x : End) (store out : List ℕ) (n u : ℕ) → assembledOutcome x store (length out) ≡ bad n u
     → (ownPapers x ≡ bad n u) ⊎ List·Memᴰ n (beyondLimit ∷ notOurs ∷ notSound ∷ waiting ∷ tooShort ∷ [])
 unfolding assembledOutcome
 end-number x store out n u h = go (next-bad (soundEnd x) _ n u h)
@@ -154,7 +154,7 @@ end-number x store out n u h = go (next-bad (soundEnd x) _ n u h)
     first (inl k) = inl k
     first (inr (listed, _)) = inr (Memᴰ·append-left (notOurs ∷ notSound ∷ waiting ∷ tooShort ∷ []) listed)
 
-    go : (soundEnd x ≡ bad n u) ⊎ ((q : Papers) × (p : ℕ) × (soundEnd x ≡ good q p) × (assembledWith q x store out ≡ bad n u))
+    go : (soundEnd x ≡ bad n u) ⊎ ((q : Papers) × (p : ℕ) × (soundEnd x ≡ good q p) × (assembledWith q x store (length out) ≡ bad n u))
         → (ownPapers x ≡ bad n u) ⊎ List·Memᴰ n (beyondLimit ∷ notOurs ∷ notSound ∷ waiting ∷ tooShort ∷ [])
     go (inl z) = first (sound-number x n u z)
     go (inr (q, p, _, z)) = inr (List·Memᴰ·tail (with-number q x store out n u z))

@@ -4,7 +4,7 @@ use mathlib.Core.Path.{_≡_, ap, _∙_}
 use mathlib.Core.Bool.{true, false}
 use mathlib.Core.List.{List, []}
 use Prim.Native.Nat.{ℕ, _≤_, _<_}
-use lib.ListN.{length, take}
+use lib.ListN.{length}
 use Rattle.ground.specs.Outcome.Outcome.{good, bad}
 use Rattle.fields.specs.Refusals.{waiting}
 use Rattle.contents.specs.Parts.{relationCount}
@@ -50,7 +50,7 @@ module _ (c : Crew) (w : Allowed c) where
           let t : k ≡ r = rows-rows c w m k (sentRows e words marks k) few is r (sound .about) in
           rw (← t, is) (made-delivered e within (c .run) (c .whole) (w .sizes) k few words marks same covers)
 
-  module _ (s : State) (sound : Sound c s) (behind out : List ℕ) where
+  module _ (s : State) (sound : Sound c s) (behind : List ℕ) (lent : ℕ) where
     abbrev x : Held
     x = s .at (c .papers .program .site)
 
@@ -58,11 +58,11 @@ module _ (c : Crew) (w : Allowed c) where
     s-at = sound (p .site) (assembly-few c w)
 
     abbrev held : List ℕ
-    held = take (x .end .used) (x .store)
+    held = heldBy (x .end) (x .store)
 
     -- an end that holds so assembles: the words past those in use play no part
     assembles : (y : Source) (u : ℕ) → sourceHeld e (c .run) (x .end .arrived) held ≡ good y u
-        → Assembles (x .end) (lentStore x behind) out (c .papers) y
+        → Assembles (x .end) (lentStore x behind) lent (c .papers) y
     assembles y u is =
         record {
           sound = end-taken c w (s .made) (p .site) (assembly-few c w) x s-at;
@@ -72,19 +72,19 @@ module _ (c : Crew) (w : Allowed c) where
         }
 
     pub waits : (r : ℕ) → r < relationCount e → hasArrived (x .end) r ≡ false → ((k : ℕ) → k < r → hasArrived (x .end) k ≡ true)
-        → assembledOutcome (x .end) (lentStore x behind) out ≡ bad waiting r
+        → assembledOutcome (x .end) (lentStore x behind) lent ≡ bad waiting r
     waits r h missing before =
         let (y, u, is, _) =
         held-lies e (c .run) held (SoundRows e (c .run)) (λ _ _ z. z) (x .end .arrived)
         (held-map e (λ _ _ z. z .1) (x .end .arrived) held (s-at .stored)) in
-        assembly-waits (x .end) (lentStore x behind) out (c .papers) y (assembles y u is) r h missing before
+        assembly-waits (x .end) (lentStore x behind) lent (c .papers) y (assembles y u is) r h missing before
 
-    pub answers : Lower c s → ((r : ℕ) → r < relationCount e → hasArrived (x .end) r ≡ true) → length (answerWords e (c .whole)) ≤ length out
-        → assembledOutcome (x .end) (lentStore x behind) out ≡ good (answerWords e (c .whole)) (length (answerWords e (c .whole)))
+    pub answers : Lower c s → ((r : ℕ) → r < relationCount e → hasArrived (x .end) r ≡ true) → length (answerWords e (c .whole)) ≤ lent
+        → assembledOutcome (x .end) (lentStore x behind) lent ≡ good (answerWords e (c .whole)) (length (answerWords e (c .whole)))
     answers low all room =
         let (y, u, is, answer) =
         delivered-answer e within (c .run) (c .whole) (x .end .arrived) held
         (held-map e (held-delivered s low) (x .end .arrived) held (s-at .stored)) all in
         let same : sourceAnswer e y (heldBy (x .end) (lentStore x behind)) ≡ answerWords e (c .whole) =
         ap (sourceAnswer e y) (lent-same c (s .made) (p .site) x s-at behind []) ∙ answer in
-        assembly-answers (x .end) (lentStore x behind) out (c .papers) y (assembles y u is) all (rw same room) ∙ ap (λ (l : List ℕ). good l (length l)) same
+        assembly-answers (x .end) (lentStore x behind) lent (c .papers) y (assembles y u is) all (rw same room) ∙ ap (λ (l : List ℕ). good l (length l)) same

@@ -21,10 +21,10 @@ use Rattle.paths.specs.declared.steps.Legality.{Legality}
 use Rattle.paths.specs.declared.steps.Legality.the-variants as Legality
 use Rattle.papers.specs.Checks.{papersOf}
 use Rattle.tables.specs.Shape.{marksTests, columnTests}
-use Rattle.tables.proofs.CallLaws.{values-number as gathered-number}
 use Rattle.semijoin.proofs.CallPromiseLaws.{call-promise}
 use Rattle.ends.proofs.SoundLaws.{firstNumbers, sound-number, usable-number}
 use Rattle.station.proofs.OpeningLaws.{open-number, open-untouched}
+use Rattle.tables.proofs.CallLaws.{values-number as gathered-number}
 use Rattle.station.proofs.MakingLaws.{values-number, rows-number}
 use Rattle.station.proofs.ReceivingLaws.{lastNumbers, received-number, received-marks, received-store, received-end}
 use Rattle.demands.proofs.StructPapers.{check-struct, papers-struct}
@@ -86,7 +86,7 @@ demand-one e p x s words marks store out =
       estimating = λ n u h. inl (estimate-refused (papersOf e p) n u h);
       marks-judged = λ k. judged-alone (marksTests e words k);
       column-judged = λ a k. judged-alone (columnTests e a words k);
-      gathering = λ a start. (λ n u h. gathered-number e a words marks start out n u h .0, leaves-refused (sets out start) out _);
+      gathering = λ a start. (λ n u h. gathered-number e a words marks start (length out) n u h .0, leaves-refused (sets out start) out _);
       opening-marks = λ here. (λ n u h. only-number (call-promise .open-number e words here marks n u h), leaves-refused (λ v. v) marks _);
       reducing = λ values a. (λ n u h. call-promise .reduce-number e words values a marks n u h .0, leaves-refused (λ v. v) marks _);
       in-one-place = (λ n u h. only-number (call-promise .run-number e p words marks n u h), leaves-refused (λ v. v) marks _);

@@ -4,14 +4,13 @@ use mathlib.Core.Bool.{true}
 use Prim.Native.Nat.{ℕ}
 use mathlib.Core.List.{List, [], _∷_}
 use native.Mathlib.Omega.{arith}
-use lib.ListN.{length, take, replicate}
+use lib.ListN.{length, replicate}
 use lib.Seq.{take-all}
-use Rattle.ground.specs.Lists.{each}
 use Rattle.ground.specs.Outcome.Outcome.{good}
 use Rattle.ground.proofs.OutcomeLaws.{next-good}
 use Rattle.contents.specs.declared.envelope.Envelope.{Envelope}
 use Rattle.envelopes.specs.Envelope.{checkEnvelope}
-use Rattle.paths.specs.Meaning.{Row, answerRows, answerWords}
+use Rattle.paths.specs.Meaning.{answerRows, wordsOfRows, answerWords}
 use Rattle.papers.specs.Programs.{stepsOf, programAgainst, programBytes}
 use Rattle.papers.specs.Checks.{papersOf}
 use Rattle.papers.specs.declared.checks.Papers.{Papers}
@@ -22,7 +21,8 @@ use Rattle.semijoin.specs.Local.{openedIn}
 use Rattle.semijoin.specs.Run.{steppedAll, runMarks}
 use Rattle.semijoin.proofs.CallPromiseLaws.{call-promise}
 use Rattle.ends.specs.Reducing.{stepCount}
-use Rattle.demands.specs.Link.{Crew, Allowed, State, start, Event, after, afterAll, Follows}
+use Rattle.answerer.specs.Stores.{heldBy}
+use Rattle.demands.specs.Link.{Crew, Allowed, State, start, Event, after, afterEvents, Follows}
 use Rattle.demands.specs.DemandThree.{runAfter, Lower, Upper, answering, DemandThree, EveryHistory}
 use Rattle.demands.proofs.TakenLaws.{Sound}
 use Rattle.demands.proofs.AppendedLaws.{held-map}
@@ -41,7 +41,7 @@ same-answer c w =
     let (g, v, read, made) = next-good (programAgainst f (programBytes (c .program))) _ (c .papers) (w .accepted .0) rest in
     let both : record { envelope = f; program = g } ≡ c .papers = cc in
     let same : f ≡ c .papers .envelope = ap (λ (q : Papers). q .envelope) both in
-    ap (each (λ (row : Row). row)) (ap (λ (e : Envelope). answerRows e (c .whole)) (sym same) ∙ taken-means (c .envelope) f u (w .fits) check .4 (c .whole))
+    ap wordsOfRows (ap (λ (e : Envelope). answerRows e (c .whole)) (sym same) ∙ taken-means (c .envelope) f u (w .fits) check .4 (c .whole))
 
 run-whole : (c : Crew) → runAfter c (stepCount (c .papers .program))
     ≡ runMarks (c .papers .envelope) (c .papers .program) (c .whole) (replicate (rowCount (c .papers .envelope) (c .whole)) 0)
@@ -64,7 +64,7 @@ module _ (c : Crew) (w : Allowed c) where
   always-start =
       record { sound = λ site small. sound-start c w site small; lower = lower-start c w; upper = upper-start c w; roomy = room-start c w }
 
-  always-after : (events : List Event) (s : State) → Always c w s → Follows c s events → Always c w (afterAll c s events)
+  always-after : (events : List Event) (s : State) → Always c w s → Follows c s events → Always c w (afterEvents c s events)
   always-after [] s a f = a
   always-after (x ∷ xs) s a f =
       always-after xs (after c s x)
@@ -83,13 +83,13 @@ module _ (c : Crew) (w : Allowed c) where
         upper = a .upper;
         answers =
             record {
-              answer = λ all behind out room.
-                  answers c w s (a .sound) behind out (a .lower) all (rw (same-answer c w) room)
+              answer = λ all behind lent room.
+                  answers c w s (a .sound) behind lent (a .lower) all (rw (same-answer c w) room)
                   ∙ ap (λ (l : List ℕ). good l (length l)) (same-answer c w);
-              waits = λ r h missing before behind out. waits c w s (a .sound) behind out r h missing before;
+              waits = λ r h missing before behind lent. waits c w s (a .sound) behind lent r h missing before;
               held =
                   held-map (c .papers .envelope) (λ r m k. (a .upper .made m (k .0), k .1)) (answering c s .end .arrived)
-                  (take (answering c s .end .used) (answering c s .store)) (a .sound (c .papers .program .site) (assembly-few c w) .stored);
+                  (heldBy (answering c s .end) (answering c s .store)) (a .sound (c .papers .program .site) (assembly-few c w) .stored);
               arrives = λ r h m behind there second wide. row-arrives c w s (a .sound) (a .lower) (a .roomy) r h m behind there second wide;
               suffices = λ r h new m there second. row-suffices c w s (a .sound) (a .lower) (a .roomy) r h new m there second;
               stays = λ x possible r t. arrived-stays c w s x (a .sound) possible (c .papers .program .site) (assembly-few c w) r t;
@@ -98,4 +98,4 @@ module _ (c : Crew) (w : Allowed c) where
       }
 
 pub demand-three : EveryHistory
-demand-three c w events f = demanded c w (afterAll c (start c) events) (always-after c w events (start c) (always-start c w) f)
+demand-three c w events f = demanded c w (afterEvents c (start c) events) (always-after c w events (start c) (always-start c w) f)

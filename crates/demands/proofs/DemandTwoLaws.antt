@@ -65,15 +65,15 @@ estimate-holds q u = estimate-kept (q .envelope) (q .program)
 
 -- ---- the answer, where it is taken
 
-answer-taken : (e : Envelope) → Fits e → (words out w : List ℕ) (u : ℕ)
-    → (answerOutcome e words out ≡ good w u)
-    ↔ (Within e × (shaped e words ≡ true) × (length (answerWords e words) ≤ length out) × (w ≡ answerWords e words) × (u ≡ length w))
-answer-taken e fits words out w u = (
+answer-taken : (e : Envelope) → Fits e → (words w : List ℕ) (lent u : ℕ)
+    → (answerOutcome e words lent ≡ good w u)
+    ↔ (Within e × (shaped e words ≡ true) × (length (answerWords e words) ≤ lent) × (w ≡ answerWords e words) × (u ≡ length w))
+answer-taken e fits words w lent u = (
   λ h.
-      let (a, is, end) = answer-exact e words out fits w u .0 h in
+      let (a, is, end) = answer-exact e words lent fits w u .0 h in
       (a .within, a .shape, a .room, is, end),
   λ (within, shape, room, is, end).
-      answer-exact e words out fits w u .1 (record { within = within; shape = shape; room = room }, is, end),
+      answer-exact e words lent fits w u .1 (record { within = within; shape = shape; room = room }, is, end),
 )
 
 -- ---- a step

@@ -59,7 +59,7 @@ locals = (refl, refl)
 
 -- the answers to two envelopes on the same tables, into 12 words
 abbrev answerOf : Envelope → ℕ → Type 0
-answerOf e n = (w : List ℕ) × (u : ℕ) × (answerOutcome e couponWeigh (replicate 12 0) ≡ good w u) × (length w ≡ n)
+answerOf e n = (w : List ℕ) × (u : ℕ) × (answerOutcome e couponWeigh 12 ≡ good w u) × (length w ≡ n)
 
 answers : answerOf onNumber 6 × answerOf onDate 12
 unfolding padded numbersFrom numbered littleEnd bytesOf firstFrom numberAt numberThat marked markAt versionAt headOf columnsOf columnAt columnBytes columnsThen relationAt relationBytes samePlace placeAt placeBytes domainOf selectionAt joined joinAt clauseAt kindBytes columnsIn sizesOf relationsOf clausesOf targetsOf withVersion withSizes withRelations withClauses withTargets names kept keptColumns firstBare filled listInto ended targetsThen clausesThen relationsThen sizesThen envelopeFrom envelopeBytes checkEnvelope rowsIn tablesIn tablesOf meetsAll answerOn answerRows countIn firstWord wordsBefore shaped fitted answerChecked answerOutcome
@@ -91,7 +91,7 @@ not-one-plan x all =
     omega (arith, same, locals .0, locals .1)
 
 -- of the answers that are given
-pub not-one-answer : (w : List ℕ) → ((e : Envelope) (words out v : List ℕ) (u : ℕ) → answerOutcome e words out ≡ good v u → v ≡ w) → ⊥
+pub not-one-answer : (w : List ℕ) → ((e : Envelope) (words out v : List ℕ) (u : ℕ) → answerOutcome e words (length out) ≡ good v u → v ≡ w) → ⊥
 not-one-answer w all =
     let (v, u, h, six) = answers .0 in
     let (y, z, k, twelve) = answers .1 in

@@ -1,4 +1,4 @@
--- DemandOneLaws: demand 1 holds, by NumberLaws, PaperLaws, StructLaws, StructPapers and AnswerNumbers. DemandTwoLaws: demand 2.
+-- DemandOneLaws, DemandOneCallsLaws: demand 1, by NumberLaws, PaperLaws, StructLaws, StructPapers, AnswerNumbers. DemandTwoLaws: demand 2.
 -- DemandThreeLaws: demand 3, by what stays in every state (Sound, Lower, Upper, Room). OrderlyLaws: in order every call is taken.
 -- The Unique files: each contract determines its result. Excluded: what 01 excludes by name. Figures, TwoStations: values computed.
 pub mod NumberLaws
@@ -7,6 +7,7 @@ pub mod StructLaws
 pub mod StructPapers
 pub mod AnswerNumbers
 pub mod DemandOneLaws
+pub mod DemandOneCallsLaws
 pub mod DemandTwoLaws
 pub mod CrewLaws
 pub mod TakenLaws

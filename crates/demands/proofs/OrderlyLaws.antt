@@ -29,7 +29,7 @@ use Rattle.ends.proofs.EndLaws.{no-steps, none-arrived}
 use Rattle.station.proofs.MakingLaws.{RowsMade, rows-go}
 use Rattle.station.proofs.DeliveredLaws.{rows-arrive}
 use Rattle.station.proofs.RoomLaws.{message-most}
-use Rattle.demands.specs.Link.{Crew, Allowed, State, start, Event, Possible, withMade, withTaken, lentStore, after, afterAll, Follows}
+use Rattle.demands.specs.Link.{Crew, Allowed, State, start, Event, Possible, withMade, withTaken, lentStore, after, afterEvents, Follows}
 use Rattle.demands.specs.Orderly.{sendsStep, bringsStep, sendsRows, bringsRows, inTurn, inOrder, IsTaken, AllTaken, Happens, InOrder}
 use Rattle.demands.proofs.TakenLaws.{SoundAt, Sound, received, good-papers, rows-by}
 use Rattle.demands.proofs.SoundLaws.{taken-here, taken-there}
@@ -187,7 +187,7 @@ module _ (c : Crew) (w : Allowed c) (room : ℕ) (wide : 16400 ≤ room) where
 
   -- some events from a state are possible and taken, and lead to a state of which something holds
   abbrev Goes : State → List Event → (State → Type 0) → Type 0
-  Goes s xs Q = Follows c s xs × AllTaken c s xs × Q (afterAll c s xs)
+  Goes s xs Q = Follows c s xs × AllTaken c s xs × Q (afterEvents c s xs)
 
   all-steps : (d n : ℕ) (s : State) → n + d ≡ stepCount p → Ready c w n 0 s → Goes s (inTurn c (sendsStep c room) (bringsStep c room) s (numbersFrom n d)) (Ready c w (stepCount p) 0)
   unfolding numbersFrom inTurn
@@ -228,15 +228,15 @@ module _ (c : Crew) (w : Allowed c) (room : ℕ) (wide : 16400 ≤ room) where
       none-before r = omega (arith, before-most p r 0)
 
   -- one list of events after another
-  follows-all : (xs ys : List Event) (s : State) → Follows c s xs → Follows c (afterAll c s xs) ys → Follows c s (xs ++ ys)
+  follows-all : (xs ys : List Event) (s : State) → Follows c s xs → Follows c (afterEvents c s xs) ys → Follows c s (xs ++ ys)
   follows-all [] ys s f g = g
   follows-all (x ∷ xs) ys s f g = (f .0, follows-all xs ys (after c s x) (f .1) g)
 
-  taken-all : (xs ys : List Event) (s : State) → AllTaken c s xs → AllTaken c (afterAll c s xs) ys → AllTaken c s (xs ++ ys)
+  taken-all : (xs ys : List Event) (s : State) → AllTaken c s xs → AllTaken c (afterEvents c s xs) ys → AllTaken c s (xs ++ ys)
   taken-all [] ys s f g = g
   taken-all (x ∷ xs) ys s f g = (f .0, taken-all xs ys (after c s x) (f .1) g)
 
-  after-append : (xs ys : List Event) (s : State) → afterAll c s (xs ++ ys) ≡ afterAll c (afterAll c s xs) ys
+  after-append : (xs ys : List Event) (s : State) → afterEvents c s (xs ++ ys) ≡ afterEvents c (afterEvents c s xs) ys
   after-append [] ys s = refl
   after-append (x ∷ xs) ys s = after-append xs ys (after c s x)
 
@@ -247,8 +247,8 @@ module _ (c : Crew) (w : Allowed c) (room : ℕ) (wide : 16400 ≤ room) where
       let none-yet : 0 + relationCount e ≡ relationCount e = omega arith in
       let steps = inTurn c (sendsStep c room) (bringsStep c room) (start c) (below (stepCount p)) in
       let (f, t, ready) = all-steps (stepCount p) 0 (start c) zero-more start-ready in
-      let rows = inTurn c (sendsRows c room) (bringsRows c room) (afterAll c (start c) steps) (below (relationCount e)) in
-      let (g, u, done) = all-rows (relationCount e) 0 (afterAll c (start c) steps) none-yet ready in
+      let rows = inTurn c (sendsRows c room) (bringsRows c room) (afterEvents c (start c) steps) (below (relationCount e)) in
+      let (g, u, done) = all-rows (relationCount e) 0 (afterEvents c (start c) steps) none-yet ready in
       record {
         opened = λ site small. (opened c w site small, 0, opening-good c w site small);
         possible = follows-all steps rows (start c) f g;

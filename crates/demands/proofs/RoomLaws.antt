@@ -26,7 +26,7 @@ use Rattle.ends.specs.declared.ends.End.{End}
 use Rattle.ends.proofs.MessageLaws.{about-rows, rows-below, row-run, row-front}
 use Rattle.station.proofs.MadeLaws.{rows-counted}
 use Rattle.station.proofs.DeliveredLaws.{rows-come}
-use Rattle.station.proofs.RoomLaws.{mostOf, message-most, heldBy, held-within, room-suffices}
+use Rattle.station.proofs.RoomLaws.{mostOf, message-most, mostHeld, held-within, room-suffices}
 use Rattle.demands.specs.Link.{Crew, Allowed, State, Bears, siteOpened, start, Event, Possible, withTaken, lentStore, after}
 use Rattle.demands.specs.Link.Event.{makesValues, makesRows, comes}
 use Rattle.demands.specs.DemandThree.{LowerMade, Lower}
@@ -63,7 +63,7 @@ module _ (c : Crew) (w : Allowed c) where
   -- ---- the used words are no more than the messages that arrived can have
 
   abbrev pub RoomAt : Held → Type 0
-  RoomAt h = h .end .used ≤ heldBy e (c .whole) (hasArrived (h .end)) (relationCount e)
+  RoomAt h = h .end .used ≤ mostHeld e (c .whole) (hasArrived (h .end)) (relationCount e)
 
   abbrev pub Roomy : State → Type 0
   Roomy s = (site : ℕ) → site ≤ 7 → RoomAt (s .at site)

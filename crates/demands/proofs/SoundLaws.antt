@@ -12,7 +12,7 @@ use lib.Seq.{sets, take-at, length-take-le, length-sets}
 use lib.Dec.{ltb, leb}
 use borrow.Author.Tests.{eq-eqb, ne-eqb, le-ltb}
 use Rattle.ground.specs.Tests.{pick}
-use Rattle.ground.specs.Outcome.{Outcome, leaves}
+use Rattle.ground.specs.Outcome.{Outcome, valueOf}
 use Rattle.ground.specs.Outcome.Outcome.{good, bad}
 use Rattle.ground.proofs.OutcomeLaws.{never, leaves-good, leaves-bad}
 use Rattle.contents.specs.Parts.{relationCount}
@@ -70,11 +70,11 @@ held-is h a b d p q r = rw (← p, ← q, ← r) refl
 module _ (c : Crew) (w : Allowed c) (made : List (List ℕ)) (site : ℕ) (small : site ≤ 7) (x : Held) (s : SoundAt c made site x) where
   pub changes : (store m : List ℕ)
       → Change c site x store m
-      (leaves (λ (h : Held). h) (record { end = x .end; marks = x .marks; store = store }) (receiveOf (x .end) (c .tables site) (x .marks) store m))
+      (valueOf (record { end = x .end; marks = x .marks; store = store }) (receiveOf (x .end) (c .tables site) (x .marks) store m))
   changes store m = go (receiveOf (x .end) (c .tables site) (x .marks) store m) (received c w made site small x s store m)
     where
       go : (o : Outcome Held) → o ≡ receiveWith (c .papers) (x .end) (c .tables site) (x .marks) store m
-          → Change c site x store m (leaves (λ (h : Held). h) (record { end = x .end; marks = x .marks; store = store }) o)
+          → Change c site x store m (valueOf (record { end = x .end; marks = x .marks; store = store }) o)
       go (bad n u) f = refused (leaves-bad (λ (h : Held). h) (record { end = x .end; marks = x .marks; store = store }) n u)
       go (good h u) f =
           rw (leaves-good (λ (h : Held). h) (record { end = x .end; marks = x .marks; store = store }) h u)
@@ -90,7 +90,7 @@ module _ (c : Crew) (w : Allowed c) (made : List (List ℕ)) (site : ℕ) (small
 
 module _ (s : State) (site : ℕ) (store : List ℕ) (o : Outcome Held) where
   pub taken-here : withTaken s site store o .at site
-      ≡ leaves (λ (h : Held). h) (record { end = s .at site .end; marks = s .at site .marks; store = store }) o
+      ≡ valueOf (record { end = s .at site .end; marks = s .at site .marks; store = store }) o
   unfolding withTaken
   taken-here = rw (eq-eqb site site refl)
 
@@ -103,7 +103,7 @@ module _ (s : State) (site : ℕ) (store : List ℕ) (o : Outcome Held) where
   taken-made = refl
 
   pub taken-at : (Q : ℕ → Held → Type 0) → ((k : ℕ) → k ≤ 7 → Q k (s .at k))
-      → Q site (leaves (λ (h : Held). h) (record { end = s .at site .end; marks = s .at site .marks; store = store }) o)
+      → Q site (valueOf (record { end = s .at site .end; marks = s .at site .marks; store = store }) o)
       → (k : ℕ) → k ≤ 7 → Q k (withTaken s site store o .at k)
   taken-at Q all one k h = go (ℕ-discrete k site)
     where

@@ -6,7 +6,6 @@ use mathlib.Core.Bool.{Bool, true, false, false≢true}
 use mathlib.Core.List.{List, [], _∷_}
 use Prim.Native.Nat.{ℕ, zero, suc, _≤_, _<_, _^_}
 use native.Mathlib.Omega.{arith}
-use lib.ListN.{replicate}
 use lib.Dec.{eqb}
 use borrow.Author.Tests.{eqb-true}
 use Rattle.ground.specs.Tests.{pick}
@@ -23,7 +22,7 @@ use Rattle.papers.specs.Checks.{papersOf}
 use Rattle.papers.specs.declared.programs.Program.{Program}
 use Rattle.papers.proofs.ExamplePapers.{couponWeigh}
 use Rattle.semijoin.proofs.Figures.{onNumber}
-use Rattle.demands.specs.Link.{Crew, Allowed, State, start, afterAll, lentStore, siteOpened, withMade, withTaken, after}
+use Rattle.demands.specs.Link.{Crew, Allowed, State, start, afterEvents, lentStore, siteOpened, withMade, withTaken, after}
 use Rattle.demands.specs.Orderly.{inTurn, inOrder, Happens}
 use Rattle.demands.specs.DemandThree.{answering}
 use Rattle.demands.proofs.OrderlyLaws.{in-order}
@@ -57,7 +56,7 @@ use Rattle.semijoin.specs.Local.{passesBy, passes, openingMark, openedAt, opene
 use Rattle.semijoin.specs.Marks.{sieved, sievedOver, reducedBy}
 use Rattle.ends.specs.Ends.{overAt, overApplied, soundEnd, usable, startOf}
 use Rattle.ends.specs.Messages.{valueMessage, rowMessage, aboutOf, counted, soundValues, rowsOf}
-use Rattle.ends.specs.Reducing.{stepOf, reduces, reducing, stepsBefore, isMissing, firstMissing, missingIn}
+use Rattle.ends.specs.Reducing.{stepOf, reduces, reducing, stepsBefore, isMissing, firstMissing, missingOf}
 use Rattle.station.specs.Making.{valuesWith, makeValuesOf, sentRows, rowsWith, makeRowsOf}
 use Rattle.station.specs.Opening.{openWith, openOf}
 use Rattle.station.specs.Receiving.{appliedTo, withApplied, withArrived, valuesTaken, rowsTaken, taken as taken-of, receiveWith, receiveOf}
@@ -91,7 +90,7 @@ crew =
 -- ---- the run
 
 abbrev finish : State
-finish = afterAll crew (start crew) (inOrder crew 20)
+finish = afterEvents crew (start crew) (inOrder crew 20)
 
 -- the messages, the last first: rows of WEIGH and of COUPON, the numbers of WEIGH for COUPON and those of COUPON for WEIGH; what each
 -- station keeps; and the answer
@@ -99,9 +98,9 @@ pub computed : (finish .made
     ≡ (7 ∷ 257 ∷ 3 ∷ 11 ∷ 5 ∷ 12 ∷ 7 ∷ 12 ∷ 7 ∷ []) ∷ (7 ∷ 256 ∷ 2 ∷ 11 ∷ 12 ∷ []) ∷ (7 ∷ 1 ∷ 2 ∷ 11 ∷ 12 ∷ [])
     ∷ (7 ∷ 0 ∷ 3 ∷ 11 ∷ 12 ∷ 13 ∷ []) ∷ [])
     × (finish .at 1 .marks ≡ 1 ∷ 1 ∷ 0 ∷ 9 ∷ []) × (finish .at 2 .marks ≡ 1 ∷ 1 ∷ 1 ∷ 0 ∷ [])
-    × (assembledOutcome (answering crew finish .end) (lentStore (answering crew finish) []) (replicate 6 0)
+    × (assembledOutcome (answering crew finish .end) (lentStore (answering crew finish) []) 6
     ≡ good (11 ∷ 5 ∷ 12 ∷ 7 ∷ 12 ∷ 7 ∷ []) 6)
-unfolding littleEnd bytesOf padded numbersFrom numbered insert rising firstFrom numberAt numberThat marked markAt versionAt headOf domainOf selectionAt joined joinAt clauseAt kindBytes samePlace placeAt placeBytes columnsOf columnAt columnBytes columnsThen relationAt relationBytes names kept keptColumns firstBare sizesOf relationsOf clausesOf targetsOf columnsIn withVersion withSizes withRelations withClauses withTargets siteOf isAt holds filled listInto ended targetsThen clausesThen relationsThen sizesThen envelopeFrom envelopeBytes checkEnvelope constantsOf selectionsBy equalitiesBy rowsIn tablesIn tablesOf meetsAll answerOn answerRows edges onPath isPlace legalBy stepBytes papersOf stepsOf stepAt endedProgram stepsThen programBy readProgram programBytes checkProgram countIn wordsBefore rowsBefore firstWord rowsOver marksOver rowsAt marksAt isRising keptOf keptRows shaped valuesOver valuesOf risingValues passesBy passes openingMark openedAt opened openedIn sieved sievedOver reducedBy overAt overApplied soundEnd usable startOf valueMessage rowMessage aboutOf counted soundValues rowsOf stepOf reduces reducing stepsBefore isMissing firstMissing missingIn leaves fitted valuesWith makeValuesOf sentRows rowsWith makeRowsOf openWith openOf appliedTo withApplied withArrived valuesTaken rowsTaken taken-of receiveWith receiveOf firstAwaited sourceAnswer assembled assembledWith assembledOutcome wordFrom rowFrom tableFrom tablesBehind standsIn layStored metBy messageAt dueIn laysFrom sourceHeld sourceOf siteOpened withMade withTaken after inTurn inOrder
+unfolding littleEnd bytesOf padded numbersFrom numbered insert rising firstFrom numberAt numberThat marked markAt versionAt headOf domainOf selectionAt joined joinAt clauseAt kindBytes samePlace placeAt placeBytes columnsOf columnAt columnBytes columnsThen relationAt relationBytes names kept keptColumns firstBare sizesOf relationsOf clausesOf targetsOf columnsIn withVersion withSizes withRelations withClauses withTargets siteOf isAt holds filled listInto ended targetsThen clausesThen relationsThen sizesThen envelopeFrom envelopeBytes checkEnvelope constantsOf selectionsBy equalitiesBy rowsIn tablesIn tablesOf meetsAll answerOn answerRows edges onPath isPlace legalBy stepBytes papersOf stepsOf stepAt endedProgram stepsThen programBy readProgram programBytes checkProgram countIn wordsBefore rowsBefore firstWord rowsOver marksOver rowsAt marksAt isRising keptOf keptRows shaped valuesOver valuesOf risingValues passesBy passes openingMark openedAt opened openedIn sieved sievedOver reducedBy overAt overApplied soundEnd usable startOf valueMessage rowMessage aboutOf counted soundValues rowsOf stepOf reduces reducing stepsBefore isMissing firstMissing missingOf leaves fitted valuesWith makeValuesOf sentRows rowsWith makeRowsOf openWith openOf appliedTo withApplied withArrived valuesTaken rowsTaken taken-of receiveWith receiveOf firstAwaited sourceAnswer assembled assembledWith assembledOutcome wordFrom rowFrom tableFrom tablesBehind standsIn layStored metBy messageAt dueIn laysFrom sourceHeld sourceOf siteOpened withMade withTaken after inTurn inOrder
 computed = (refl, refl, refl, refl)
 
 -- ---- the crew is one that demand 3 speaks of
@@ -187,8 +186,8 @@ own-rows site zero h = subst (λ (k : ℕ). rowsAt onNumber (crew .tables k) 0 �
 own-rows site (suc zero) h = subst (λ (k : ℕ). rowsAt onNumber (crew .tables k) 1 ≡ rowsAt onNumber couponWeigh 1) (eqb-true 2 site h) refl
 own-rows site (suc (suc r)) h = let two : 2 ≤ suc (suc r) = omega arith in absurd (false≢true (at-none onNumber (suc (suc r)) site 2 refl two ∙ h))
 
-pub allowed : Allowed crew
-allowed =
+pub two-allowed : Allowed crew
+two-allowed =
     record {
       fits = fits;
       accepted = (15, taken);
@@ -200,4 +199,4 @@ allowed =
 
 -- so all of its calls are taken where there is room
 pub all-happens : Happens crew 16400
-all-happens = in-order crew allowed 16400 (omega arith)
+all-happens = in-order crew two-allowed 16400 (omega arith)

@@ -1,4 +1,5 @@
 -- Of each public function that reads, checks, writes, plans, estimates or lists, or serves those: its contract determines it.
+use Rattle.ground.proofs.least
 use Rattle.ground.proofs.used
 use Rattle.fields.proofs.numbers
 use Rattle.fields.proofs.puts
@@ -29,6 +30,9 @@ use Rattle.demands.proofs.Unique.{Determined, same}
 
 pub in-use-one : Determined used.in_use.Kinds.ps used.in_use.Kinds.r used.in_use.Reads.Learnt
 in-use-one κs a y z u v p q = (same p q, refl)
+
+pub nearer-of-one : Determined least.nearer_of.Kinds.ps least.nearer_of.Kinds.r least.nearer_of.Reads.Learnt
+nearer-of-one κs a y z u v p q = (same p q, refl)
 
 -- ---- fields
 
@@ -69,6 +73,9 @@ no-place-one κs a y z u v p q = (same p q, refl)
 
 pub same-place-one : Determined places.same_place.Kinds.ps places.same_place.Kinds.r places.same_place.Reads.Learnt
 same-place-one κs a y z u v p q = (same p q, refl)
+
+pub named-column-one : Determined places.named_column.Kinds.ps places.named_column.Kinds.r places.named_column.Reads.Learnt
+named-column-one κs a y z u v p q = (same p q, refl)
 
 pub column-count-one : Determined places.column_count.Kinds.ps places.column_count.Kinds.r places.column_count.Reads.Learnt
 column-count-one κs a y z u v p q = (same p q, refl)

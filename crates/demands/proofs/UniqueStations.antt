@@ -70,6 +70,9 @@ run-in-one-place-one κs a y z u v p q = (same (p .0) (q .0), λ i. (tt, (tt, (t
 
 -- ---- ends
 
+pub start-of-one : Determined ends.start_of.Kinds.ps ends.start_of.Kinds.r ends.start_of.Reads.Learnt
+start-of-one κs a y z u v p q = (same p q, refl)
+
 pub no-end-one : Determined ends.no_end.Kinds.ps ends.no_end.Kinds.r ends.no_end.Reads.Learnt
 no-end-one κs a y z u v p q = (same p q, refl)
 

@@ -1,7 +1,7 @@
 -- "Every envelope, program, table and radio message, damaged or hostile, is either taken or refused with a number from our list,
 -- and every call ends. A refusal leaves the row marks, the store and every output as they were before the call." Of each public
 -- call below boundary on papers, tables, marks, ends and stores that can refuse: by no other numbers than 01 lists for it, and what a
--- refusal leaves; boundary's calls are composed of these. That each number is met is run (crates/cases, crates/refusals,
+-- refusal leaves; DemandOneCalls says it of boundary's calls. That each number is met is run (crates/cases, crates/refusals,
 -- crates/answers). That every call ends is the language's own guarantee, and that a call is taken or refused is what an outcome is.
 -- docs/CONTRACTS.md has the functions that cannot refuse, and those that read one field or entry of a paper.
 use Rattle.demands.specs.Words.{ℕ, _≡_, Bool, List, [], _∷_, List·Memᴰ, _⊎_, length, Outcome, bad, judgement, Refused, Unjudged, Place, Envelope, Fits}
@@ -57,7 +57,7 @@ pub record DemandOne (e : Envelope) (p : Program) (x : End) (s words marks store
   -- tables and marks: 10, 11; a column: 14; its values into a buffer: 11; a step by some values, as receiving has them: 15
   pub marks-judged : (k : ℕ) → By Refused (judgement (marksTests e words k)) (10 ∷ 11 ∷ [])
   pub column-judged : (a : Place) (k : ℕ) → By Refused (judgement (columnTests e a words k)) (10 ∷ 11 ∷ 14 ∷ [])
-  pub gathering : (a : Place) (start : ℕ) → let o = valuesOutcome e words marks a start out in
+  pub gathering : (a : Place) (start : ℕ) → let o = valuesOutcome e words marks a start (length out) in
       By bad o (10 ∷ 11 ∷ 14 ∷ 11 ∷ []) × Stays o (writtenFrom start out o) out
   pub opening-marks : (here : ℕ → Bool) → let o = openOutcome e words here marks in
       After (checkEnvelope e) bad o (10 ∷ 11 ∷ []) × Stays o (valueOf marks o) marks
@@ -83,9 +83,9 @@ pub record DemandOne (e : Envelope) (p : Program) (x : End) (s words marks store
       × Stays o (receivedMarks marks o) marks × Stays o (receivedStore store o) store
       × ((n u : ℕ) → o ≡ bad n u → shownReceived (λ (h : Held). h .end) x o ≡ refusedBy x n u)
   -- "Answering on tables: 10, 11." 4, then "Answering at an end: 14 .., 15 .., 12, 11"
-  pub answering-tables : let o = answerOutcome e words out in
+  pub answering-tables : let o = answerOutcome e words (length out) in
       After (checkEnvelope e) bad o (10 ∷ 11 ∷ []) × Stays o (writtenIn out o) out
-  pub answering-end : let o = assembledOutcome x store out in
+  pub answering-end : let o = assembledOutcome x store (length out) in
       After (ownPapers x) bad o (4 ∷ 14 ∷ 15 ∷ 12 ∷ 11 ∷ []) × Stays o (writtenIn out o) out
 
 abbrev pub EveryCall : Type 0

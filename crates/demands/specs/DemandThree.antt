@@ -3,8 +3,8 @@
 -- arrives that the program, run in order in one place, would have removed." What is promised of a state that a crew comes to.
 use Rattle.demands.specs.Words.{ℕ, _+_, _≤_, _<_, _≡_, true, false, List, List·Memᴰ, length, take, replicate, good, bad, relationCount, isAt, Envelope, answerWords, stepsOf, Program}
 use Rattle.demands.specs.Words.{rowCount, valuesOf, openedIn, steppedAll, runMarks, SameRows, FewerRows, FewerValues, Covers, Holds, stepCount, stepOf, stepsBefore, appliedOf, hasArrived}
-use Rattle.demands.specs.Words.{valueMessage, rowMessage, secondOf, sentRows, Held, SoundRows, OneOfEach, assembledOutcome}
-use Rattle.demands.specs.Link.{Crew, Allowed, State, start, Event, Possible, lentStore, after, afterAll, Follows}
+use Rattle.demands.specs.Words.{valueMessage, rowMessage, secondOf, sentRows, Held, heldBy, SoundRows, OneOfEach, assembledOutcome}
+use Rattle.demands.specs.Link.{Crew, Allowed, State, start, Event, Possible, lentStore, after, afterEvents, Follows}
 use Rattle.demands.specs.Link.Event.{comes}
 
 module _ (c : Crew) where
@@ -50,16 +50,16 @@ module _ (c : Crew) where
   abbrev pub answering : State → Held
   answering s = s .at (p .site)
 
-  -- its store, and whatever is lent behind the used words, and any buffer
+  -- its store, whatever is lent behind the used words, and however much room
   pub record Answers (s : State) : Type 0 where
     -- once every relation's row message has arrived: the envelope's answer on all tables, the same rows in the same order
-    pub answer : ((r : ℕ) → r < relationCount e → hasArrived (answering s .end) r ≡ true) → (behind out : List ℕ) → length (answerWords (c .envelope) (c .whole)) ≤ length out
-        → assembledOutcome (answering s .end) (lentStore (answering s) behind) out ≡ good (answerWords (c .envelope) (c .whole)) (length (answerWords (c .envelope) (c .whole)))
+    pub answer : ((r : ℕ) → r < relationCount e → hasArrived (answering s .end) r ≡ true) → (behind : List ℕ) (room : ℕ) → length (answerWords (c .envelope) (c .whole)) ≤ room
+        → assembledOutcome (answering s .end) (lentStore (answering s) behind) room ≡ good (answerWords (c .envelope) (c .whole)) (length (answerWords (c .envelope) (c .whole)))
     -- until then 12, with the lowest relation that has not
     pub waits : (r : ℕ) → r < relationCount e → hasArrived (answering s .end) r ≡ false → ((k : ℕ) → k < r → hasArrived (answering s .end) k ≡ true)
-        → (behind out : List ℕ) → assembledOutcome (answering s .end) (lentStore (answering s) behind) out ≡ bad 12 r
+        → (behind : List ℕ) (room : ℕ) → assembledOutcome (answering s .end) (lentStore (answering s) behind) room ≡ bad 12 r
     -- what it holds is one sound row message of each relation that has, and no row is in them that the one-place run removes
-    pub held : OneOfEach e (λ r m. UpperMade m × SoundRows e (c .run) r m) (answering s .end .arrived) (take (answering s .end .used) (answering s .store))
+    pub held : OneOfEach e (λ r m. UpperMade m × SoundRows e (c .run) r m) (answering s .end .arrived) (heldBy (answering s .end) (answering s .store))
     -- a relation's row message that comes to it, and for which there is room, has arrived then, and stays so; of every run 16,400
     -- words are room enough
     pub arrives : (r : ℕ) → r < relationCount e → (m behind : List ℕ) → List·Memᴰ m (s .made) → secondOf m ≡ 256 + r
@@ -78,4 +78,4 @@ module _ (c : Crew) where
 
 -- demand 3, of every history from the openings
 abbrev pub EveryHistory : Type 0
-EveryHistory = (c : Crew) → Allowed c → (events : List Event) → Follows c (start c) events → DemandThree c (afterAll c (start c) events)
+EveryHistory = (c : Crew) → Allowed c → (events : List Event) → Follows c (start c) events → DemandThree c (afterEvents c (start c) events)

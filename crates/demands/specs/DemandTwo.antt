@@ -6,11 +6,11 @@
 -- and every number to the envelope, answer every word to the tables. "Stations that reduce nothing and ship whole
 -- tables, or that apply the first step and skip the rest": run-folds and step say which rows are kept, and Upper and
 -- Answers of DemandThree that no other is sent or held. "An invented cost or benefit": estimate, and PlanKept for the plan.
--- proofs/Excluded.antt has the first three as laws.
-use Rattle.demands.specs.Words.{ℕ, _+_, _≤_, _<_, _≡_, true, List, map, List·Memᴰ, _↔_, length, take, Every, filter, each, combinations, sum, Bytes, good, Taken, clausesOf, targetsOf, Envelope, Within, tidy, Fits}
+-- proofs/Excluded.antt has refusing everything, one plan, one answer and reducing nothing as laws.
+use Rattle.demands.specs.Words.{ℕ, _+_, _≤_, _<_, _≡_, true, List, map, List·Memᴰ, _↔_, length, take, Every, filter, combinations, sum, Bytes, good, Taken, clausesOf, targetsOf, Envelope, Within, tidy, Fits}
 use Rattle.demands.specs.Words.{readEnvelope, checkEnvelope, envelopeBytes, column, PathBetween, edges, isPlace, legal, legalSteps, Row, meetsAll, targetRow, tablesOf, answerRows, answerWords, Step}
 use Rattle.demands.specs.Words.{stepsOf, readProgram, checkProgram, programBytes, Acceptable, tidyProgram, ProgramFits, Program, localProfile, plainCosts, assemblyAt, profileAfter, kindOf, linesOf, costsIn}
-use Rattle.demands.specs.Words.{papersOf, Papers, estimateOf, Estimate, planOf, PlanKept, countIn, rowCount, answerKept, shaped, passes, Passing, openedIn, stepped, steppedAll, runMarks, runOutcome, rowOf, wordOf, keptAt, answerOutcome}
+use Rattle.demands.specs.Words.{papersOf, Papers, estimateOf, Estimate, planOf, PlanKept, countIn, rowCount, answerKept, wordsOfRows, shaped, passes, Passing, openedIn, stepped, steppedAll, runMarks, runOutcome, rowOf, wordOf, keptAt, answerOutcome}
 
 -- "R<A=B]S: R and S different, R.A and S.B on a path": along clauses, either way, from column to column or constant
 pub record OnPath (e : Envelope) (s : Step) : Type 0 where
@@ -68,6 +68,6 @@ pub record DemandTwo : Type 0 where
   -- the answer: combinations, relation 0 slowest, that meet all clauses, of each its target columns; where it is taken
   pub answer-rows : (e : Envelope) (words : List ℕ)
       → answerRows e words ≡ map (targetRow (targetsOf e)) (filter (meetsAll (clausesOf e)) (combinations (tablesOf e words)))
-  pub answer : (e : Envelope) → Fits e → (words out w : List ℕ) (u : ℕ)
-      → (answerOutcome e words out ≡ good w u)
-      ↔ (Within e × (shaped e words ≡ true) × (length (answerWords e words) ≤ length out) × (w ≡ each (λ (row : Row). row) (answerRows e words)) × (u ≡ length w))
+  pub answer : (e : Envelope) → Fits e → (words w : List ℕ) (room u : ℕ)
+      → (answerOutcome e words room ≡ good w u)
+      ↔ (Within e × (shaped e words ≡ true) × (length (answerWords e words) ≤ room) × (w ≡ wordsOfRows (answerRows e words)) × (u ≡ length w))

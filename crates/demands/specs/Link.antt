@@ -3,8 +3,8 @@
 -- them, the link losing, repeating, delaying or reordering messages but never altering or inventing them, and no message of
 -- any other run .. bearing this run's number." A crew, what can happen to it, and what stands afterwards, by the calls' own
 -- definitions.
-use Rattle.demands.specs.Words.{ℕ, _≤_, _≡_, true, List, [], _∷_, _++_, List·Memᴰ, _⊎_, length, take, eqb, pick, Outcome, good, bad, isAt, Envelope, Fits, papersOf}
-use Rattle.demands.specs.Words.{Program, Papers, rowCount, shaped, SameRows, leaves, Marked, noEnd, openOf, openedMarks, makeValuesOf, makeRowsOf, Held, receiveOf}
+use Rattle.demands.specs.Words.{ℕ, _≤_, _≡_, true, List, [], _∷_, _++_, List·Memᴰ, _⊎_, length, eqb, pick, Outcome, good, bad, isAt, Envelope, Fits, papersOf}
+use Rattle.demands.specs.Words.{Program, Papers, rowCount, shaped, SameRows, leaves, valueOf, Marked, noEnd, openOf, openedMarks, makeValuesOf, makeRowsOf, Held, receiveOf, heldBy}
 
 -- the papers that every end is opened with, and the same as they read back; the run's number; the tables of all stations
 -- together; and by site the tables there and the marks lent for opening
@@ -71,13 +71,13 @@ withMade s (bad n p) = s
 
 -- what is lent as the store of a site
 abbrev pub lentStore : Held → List ℕ → List ℕ
-lentStore x behind = take (x .end .used) (x .store) ++ behind
+lentStore x behind = heldBy (x .end) (x .store) ++ behind
 
 -- a receiving that is refused leaves the end, the marks, and the store as it was lent
 unfoldable pub withTaken : State → ℕ → List ℕ → Outcome Held → State
 withTaken s site store o =
     record {
-      at = λ k. pick (eqb k site) (leaves (λ (h : Held). h) (record { end = s .at k .end; marks = s .at k .marks; store = store }) o) (s .at k);
+      at = λ k. pick (eqb k site) (valueOf (record { end = s .at k .end; marks = s .at k .marks; store = store }) o) (s .at k);
       made = s .made;
     }
 
@@ -89,9 +89,9 @@ after c s (comes site message behind) =
     withTaken s site store (receiveOf (s .at site .end) (c .tables site) (s .at site .marks) store message)
 
 -- one thing after the other, each possible where it happens
-abbrev pub afterAll : Crew → State → List Event → State
-afterAll c s [] = s
-afterAll c s (x ∷ xs) = afterAll c (after c s x) xs
+abbrev pub afterEvents : Crew → State → List Event → State
+afterEvents c s [] = s
+afterEvents c s (x ∷ xs) = afterEvents c (after c s x) xs
 
 abbrev pub Follows : Crew → State → List Event → Type 0
 Follows c s [] = Unit {0}

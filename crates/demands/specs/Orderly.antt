@@ -2,7 +2,7 @@
 -- message is made where its right relation is and comes to where its left relation is; then each relation's row message is made
 -- where it is and comes to the assembly site. So no station that refuses everything does what this says beside demand 3.
 use Rattle.demands.specs.Words.{ℕ, _≤_, _<_, _≡_, true, List, [], _∷_, _++_, getD, replicate, below, Outcome, good, relationCount, siteOf, stepCount, stepOf, hasArrived, makeValuesOf, makeRowsOf, receiveOf}
-use Rattle.demands.specs.Link.{Crew, Allowed, State, openingAt, start, Event, after, afterAll, Follows, lentStore}
+use Rattle.demands.specs.Link.{Crew, Allowed, State, openingAt, start, Event, after, afterEvents, Follows, lentStore}
 use Rattle.demands.specs.Link.Event.{makesValues, makesRows, comes}
 
 -- with so much room lent each time: a step's values are sent and come, a relation's rows are sent and come; what comes is the
@@ -29,7 +29,7 @@ inTurn c sends brings s (n ∷ ns) =
 unfoldable pub inOrder : Crew → ℕ → List Event
 inOrder c room =
     let steps = inTurn c (sendsStep c room) (bringsStep c room) (start c) (below (stepCount (c .papers .program))) in
-    steps ++ inTurn c (sendsRows c room) (bringsRows c room) (afterAll c (start c) steps) (below (relationCount (c .papers .envelope)))
+    steps ++ inTurn c (sendsRows c room) (bringsRows c room) (afterEvents c (start c) steps) (below (relationCount (c .papers .envelope)))
 
 -- the call of an event is taken; of each event of a list
 abbrev pub Goes : {A : Type 0} → Outcome A → Type 0
@@ -50,7 +50,7 @@ pub record Happens (c : Crew) (room : ℕ) : Type 0 where
   pub possible : Follows c (start c) (inOrder c room)
   pub taken : AllTaken c (start c) (inOrder c room)
   pub arrived : (r : ℕ) → r < relationCount (c .papers .envelope)
-      → hasArrived (afterAll c (start c) (inOrder c room) .at (c .papers .program .site) .end) r ≡ true
+      → hasArrived (afterEvents c (start c) (inOrder c room) .at (c .papers .program .site) .end) r ≡ true
 
 -- with 16,400 words lent each time, or more
 abbrev pub InOrder : Type 0

@@ -1,5 +1,5 @@
--- The laws of ends: what the loop over the relations' counts holds, and what each return of the check of an end answers.
-use mathlib.Core.Path.{_≡_, ap, sym, _∙_}
+-- The laws of ends: an end at its start, what the loop over the relations' counts holds, and what each return of the check of an end answers.
+use mathlib.Core.Path.{_≡_, refl, ap, sym, _∙_}
 use mathlib.Core.Bool.{Bool, true, false}
 use mathlib.Core.List.{List, [], _∷_}
 use Prim.Native.Nat.{ℕ, _+_, _≤_, _<_, min}
@@ -34,8 +34,24 @@ use Rattle.paths.proofs.StepLaws.{legal-step}
 use Rattle.tables.specs.Shape.{marksTests}
 use Rattle.tables.proofs.JudgedLaws.{marks-pass}
 use Rattle.ends.specs.Reducing.{stepCount, stepOf, reduces, reducing, stepsBefore}
-use Rattle.ends.specs.Ends.{overAt, overApplied, soundEnd, usable, Usable}
+use Rattle.ends.specs.Ends.{startOf, overAt, overApplied, soundEnd, usable, Usable}
 use Rattle.ends.specs.declared.ends.End.{End}
+
+-- ---- an end at its start
+
+pub start-is : (q : Papers) (site run : ℕ)
+    → record {
+      envelope = q .envelope;
+      program = q .program;
+      site = site;
+      run = run;
+      applied = replicate 8 0;
+      arrived = replicate 8 false;
+      used = 0;
+    }
+    ≡ startOf q site run
+unfolding startOf
+start-is q site run = refl
 
 -- ---- the counts of applied steps
 

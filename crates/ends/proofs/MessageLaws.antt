@@ -10,10 +10,10 @@ use lib.Seq.{take-at, drop-at}
 use lib.Dec.{ltb, leb}
 use borrow.Author.Tests.{lt-ltb, le-ltb, le-leb, lt-leb, eq-eqb, ltb-true, leb-true}
 use Rattle.ground.specs.Tests.{pick}
-use Rattle.ground.specs.Lists.{each, Every}
+use Rattle.ground.specs.Lists.{Every}
 use Rattle.ground.proofs.OutcomeLaws.{never}
 use Rattle.ground.proofs.TestLaws.{and-left, and-right, and-both}
-use Rattle.paths.specs.Meaning.{Row, Table, rowsIn}
+use Rattle.paths.specs.Meaning.{Row, Table, rowsIn, wordsOfRows}
 use Rattle.tables.specs.Rising.{isRising}
 use Rattle.ends.specs.Messages.{frontLength, valueMessage, rowMessage, runOf, secondOf, bodyOf, aboutOf, counted, soundValues, rowsOf}
 use Rattle.ends.specs.declared.messages.About.the-variants.{Step, Rows, Nothing}
@@ -105,16 +105,16 @@ module _ (run n : ℕ) (values : List ℕ) where
 abbrev pub Wide : ℕ → Table → Type 0
 Wide k rows = Every (λ (row : Row). length row ≡ k) rows
 
-pub rows-long : (k : ℕ) (rows : Table) → Wide k rows → length (each (λ (row : Row). row) rows) ≡ length rows * k
+pub rows-long : (k : ℕ) (rows : Table) → Wide k rows → length (wordsOfRows rows) ≡ length rows * k
 rows-long k [] w = sym (zero-mul k)
 rows-long k (row ∷ rows) w =
-    length-append row (each (λ (row : Row). row) rows) ∙ rw (w .0, rows-long k rows (w .1)) (omega (arith, suc-mul (length rows) k))
+    length-append row (wordsOfRows rows) ∙ rw (w .0, rows-long k rows (w .1)) (omega (arith, suc-mul (length rows) k))
 
-pub rows-back : (k : ℕ) (rows : Table) → Wide k rows → rowsIn k (length rows) (each (λ (row : Row). row) rows) ≡ rows
+pub rows-back : (k : ℕ) (rows : Table) → Wide k rows → rowsIn k (length rows) (wordsOfRows rows) ≡ rows
 unfolding rowsIn
 rows-back k [] w = refl
 rows-back k (row ∷ rows) w =
-    let whole = each (λ (row : Row). row) rows in
+    let whole = wordsOfRows rows in
     rw (take-at row whole k (w .0), drop-at row whole k (w .0), rows-back k rows (w .1))
 
 module _ (run r : ℕ) (rows : Table) where
@@ -134,7 +134,7 @@ module _ (run r : ℕ) (rows : Table) where
     pub row-counted : length rows ≤ 4096 → counted k (rowMessage run r rows) ≡ true
     unfolding rowMessage counted
     row-counted h =
-        let s : length (run ∷ (256 + r) ∷ length rows ∷ each (λ (row : Row). row) rows) ≡ 3 + length rows * k =
+        let s : length (run ∷ (256 + r) ∷ length rows ∷ wordsOfRows rows) ≡ 3 + length rows * k =
         omega (arith, rows-long k rows w) in
         and-both (le-leb (length rows) 4096 h) (eq-eqb _ _ s)
 

@@ -22,10 +22,10 @@ use Rattle.paths.specs.Steps.{step}
 use Rattle.papers.specs.Programs.{noStep, stepsOf}
 use Rattle.paths.specs.declared.steps.Step.{Step}
 use Rattle.papers.specs.declared.programs.Program.{Program}
-use Rattle.ends.specs.Reducing.{stepCount, stepOf, reduces, reducing, stepsBefore, isMissing, firstMissing, missingIn, missingOf}
+use Rattle.ends.specs.Reducing.{stepCount, stepOf, reduces, reducing, stepsBefore, isMissing, firstMissing, missingOf}
 use Rattle.ends.specs.declared.reducing.Missing.{Missing}
 use Rattle.ends.specs.declared.reducing.Missing.the-variants.{First, None}
-use Rattle.ends.proofs.CountingLaws.{counted-more}
+use Rattle.ground.proofs.CountingLaws.{counted-more}
 
 module _ (steps : List Step) (count r n end : ℕ) (e : end ≡ min n (min 156 count)) where
   pub all-of : length steps ≡ 156 → reducing (take count steps) r n ≡ filter (reduces (take count steps) r) (below end)
@@ -36,8 +36,8 @@ module _ (steps : List Step) (count r n end : ℕ) (e : end ≡ min n (min 156 c
 
 -- a step by its number, and how many there are
 module _ (steps : List Step) (count k : ℕ) (e : k ≡ min 156 count) where
-  pub count-in : length steps ≡ 156 → k ≡ length (take count steps)
-  count-in l = omega (arith, length-take count steps)
+  pub steps-in-use : length steps ≡ 156 → k ≡ length (take count steps)
+  steps-in-use l = omega (arith, length-take count steps)
 
   pub step-inside : (n : ℕ) → n < k → getD steps n noStep ≡ getD (take count steps) n noStep
   step-inside n h = sym (getD-take count steps n noStep (omega arith))
@@ -126,7 +126,7 @@ module _ (p : Program) (r applied n : ℕ) where
   -- what an answer says
   module _ (x : Missing) (e : x ≡ missingOf p r applied n) where
     pub missing-first : (k : ℕ) → x ≡ First k → (isMissing p r applied n ≡ true) × (firstMissing p r applied n ≡ k)
-    unfolding missingIn isMissing firstMissing stepsBefore
+    unfolding missingOf isMissing firstMissing stepsBefore
     missing-first k f = go (ltb applied (length (reducing (stepsOf p) r n))) (sym f ∙ e)
       where
         go : (b : Bool) → First k ≡ pick b (First (getD (reducing (stepsOf p) r n) applied 0)) None
@@ -135,7 +135,7 @@ module _ (p : Program) (r applied n : ℕ) where
         go false h = let z : _≡_ {A = ℕ} 0 1 = cc in absurd (never z)
 
     pub missing-not : x ≡ None → isMissing p r applied n ≡ false
-    unfolding missingIn isMissing stepsBefore
+    unfolding missingOf isMissing firstMissing stepsBefore
     missing-not f = go (ltb applied (length (reducing (stepsOf p) r n))) (sym f ∙ e)
       where
         go : (b : Bool) → None ≡ pick b (First (getD (reducing (stepsOf p) r n) applied 0)) None → b ≡ false
@@ -159,7 +159,7 @@ module _ (p : Program) (r n : ℕ) (inside : n < stepCount p) (own : stepOf p n 
 
   module _ (applied : ℕ) where
     pub next-itself : applied ≡ stepsBefore p r n → missingOf p r applied (n + 1) ≡ First n
-    unfolding missingIn stepsBefore
+    unfolding missingOf isMissing firstMissing stepsBefore
     next-itself e =
         rw (
           behind,
@@ -168,7 +168,7 @@ module _ (p : Program) (r n : ℕ) (inside : n < stepCount p) (own : stepOf p n 
         )
 
     pub next-earlier : applied < stepsBefore p r n → (k : ℕ) × (k < n) × (missingOf p r applied (n + 1) ≡ First k)
-    unfolding missingIn stepsBefore
+    unfolding missingOf isMissing firstMissing stepsBefore
     next-earlier h = (
       getD before applied 0,
       lower (getD-mem before applied 0 h),
@@ -180,5 +180,5 @@ module _ (p : Program) (r n : ℕ) (inside : n < stepCount p) (own : stepOf p n 
     )
 
     pub next-none : stepsBefore p r n < applied → missingOf p r applied (n + 1) ≡ None
-    unfolding missingIn stepsBefore
+    unfolding missingOf isMissing firstMissing stepsBefore
     next-none h = rw (behind, le-ltb applied (length (before ++ (n ∷ []))) (omega (arith, h, longer)))

@@ -15,11 +15,11 @@ use Rattle.ground.proofs.NumbersLaws.{below-length}
 use Rattle.papers.specs.Programs.{noStep, stepsOf}
 use Rattle.paths.specs.declared.steps.Step.{Step}
 use Rattle.papers.specs.declared.programs.Program.{Program}
-use Rattle.ends.specs.Reducing.{reduces, reducing, stepsBefore, missingIn, missingOf}
+use Rattle.ends.specs.Reducing.{reduces, reducing, stepsBefore, isMissing, firstMissing, missingOf}
 use Rattle.ends.specs.Searching.{seenOf, soughtFrom, Found}
 use Rattle.ends.specs.declared.reducing.Missing.the-variants.{First, None}
 use Rattle.ends.specs.declared.reducing.Search.{Search}
-use Rattle.ends.proofs.CountingLaws.{Counting, counting-start, counting-yes, counting-no, counting-done, counting-found, counting-less}
+use Rattle.ground.proofs.CountingLaws.{Counting, counting-start, counting-yes, counting-no, counting-done, counting-found, counting-less}
 use Rattle.ends.proofs.ReducingLaws.{all-of}
 
 -- ---- one step is looked at
@@ -171,11 +171,11 @@ module _ (p : Program) (r skip n : ℕ) where
 
   module _ (c : Search) (o : Found p r skip n c) where
     pub missing-found : c .found ≡ true → First (c .at) ≡ missingOf p r skip n
-    unfolding missingIn stepsBefore
+    unfolding missingOf isMissing firstMissing stepsBefore
     missing-found h = let (less, is) = o .one h in sym (rw (lt-ltb _ _ less, is))
 
     pub missing-none : c .found ≡ false → None ≡ missingOf p r skip n
-    unfolding missingIn stepsBefore
+    unfolding missingOf isMissing firstMissing stepsBefore
     missing-none h =
         let all : length (reducing (stepsOf p) r n) + c .skip ≡ skip = o .none h in
         let k : length (reducing (stepsOf p) r n) ≤ skip = omega (arith, all) in

@@ -114,12 +114,11 @@ module _ (x : End) (words : List ℕ) (n m p : ℕ) where
           let (listed, zero) = refusal-listed (marksTests (q .envelope) words n) q u m p (refl, (refl, tt)) k in
           inr (List·Memᴰ·tail listed, zero)
 
-  -- a call that begins so: that, or the refusal of what it does with the papers
-  pub call-number : {A : Type 0} (with : Papers → Outcome A) → next (usable x words n) (λ q _. with q) ≡ bad m p
-      → ToldFirst ⊎ ((q : Papers) × (u : ℕ) × (usable x words n ≡ good q u) × (with q ≡ bad m p))
-  call-number {A} with h = go (next-bad (usable x words n) _ m p h)
+  -- a call that begins so: that, or what is told by the refusal of what it does with the papers
+  pub call-number : {A Told : Type 0} (with : Papers → Outcome A) → ((q : Papers) → with q ≡ bad m p → Told)
+      → next (usable x words n) (λ q _. with q) ≡ bad m p → ToldFirst ⊎ Told
+  call-number {A} {Told} with tell h = go (next-bad (usable x words n) _ m p h)
     where
-      go : (usable x words n ≡ bad m p) ⊎ ((q : Papers) × (u : ℕ) × (usable x words n ≡ good q u) × (with q ≡ bad m p))
-          → ToldFirst ⊎ ((q : Papers) × (u : ℕ) × (usable x words n ≡ good q u) × (with q ≡ bad m p))
+      go : (usable x words n ≡ bad m p) ⊎ ((q : Papers) × (u : ℕ) × (usable x words n ≡ good q u) × (with q ≡ bad m p)) → ToldFirst ⊎ Told
       go (inl k) = inl (usable-number k)
-      go (inr k) = inr k
+      go (inr (q, _, _, k)) = inr (tell q k)

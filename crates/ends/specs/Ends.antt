@@ -3,18 +3,17 @@
 -- (marks)": what is asked of an end, the tables and the marks before anything else.
 use Prim.Native.Nat.{ℕ, _≤_, _<_}
 use mathlib.Core.Path.{_≡_}
-use mathlib.Core.Bool.{Bool, true, false}
+use mathlib.Core.Bool.{Bool, true, false, not}
 use mathlib.Core.List.{List, [], _∷_}
 use lib.ListN.{length, getD, replicate}
-use lib.Dec.{ltb}
+use lib.Dec.{eqb, ltb}
 use Rattle.ground.specs.Lists.{any, below}
 use Rattle.ground.specs.Outcome.{Outcome, next}
 use Rattle.ground.specs.Outcome.Outcome.{good}
-use Rattle.ground.specs.Refusing.{test, judged}
-use Rattle.fields.specs.Refusals.{beyondLimit}
-use Rattle.contents.specs.Parts.{relationCount, noEnvelope}
-use Rattle.papers.specs.Programs.{noProgram}
-use Rattle.papers.specs.Checks.{papersOf, GoodPapers}
+use Rattle.ground.specs.Refusing.{Test, test, judged}
+use Rattle.fields.specs.Refusals.{beyondLimit, notOurs}
+use Rattle.contents.specs.Parts.{relationCount}
+use Rattle.papers.specs.Checks.{noPapers, papersOf, GoodPapers}
 use Rattle.papers.specs.declared.programs.Program.{Program}
 use Rattle.papers.specs.declared.checks.Papers.{Papers}
 use Rattle.tables.specs.Offsets.{rowCount}
@@ -56,6 +55,10 @@ pub record Usable (q : Papers) (words : List ℕ) (n : ℕ) : Type 0 where
   pub shape : shaped (q .envelope) words ≡ true
   pub room : rowCount (q .envelope) words ≤ n
 
+-- 14, for row messages and the answer: the end is not at the assembly site
+abbrev pub assemblyTest : Papers → End → Test
+assemblyTest q x = test (not (eqb (x .site) (q .program .site))) notOurs 0
+
 -- the papers of an end, as they stand in it
 abbrev pub papersOfEnd : End → Papers
 papersOfEnd x = record { envelope = x .envelope; program = x .program }
@@ -87,13 +90,4 @@ startOf q site run =
     }
 
 abbrev pub noEnd : End
-noEnd =
-    record {
-      envelope = noEnvelope;
-      program = noProgram;
-      site = 0;
-      run = 0;
-      applied = replicate 8 0;
-      arrived = replicate 8 false;
-      used = 0;
-    }
+noEnd = startOf noPapers 0 0

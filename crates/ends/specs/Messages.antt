@@ -7,8 +7,7 @@ use mathlib.Core.List.{List, _∷_}
 use lib.ListN.{length, getD, drop}
 use lib.Dec.{eqb, ltb, leb}
 use Rattle.ground.specs.Tests.{pick}
-use Rattle.ground.specs.Lists.{each}
-use Rattle.paths.specs.Meaning.{Row, Table, rowsIn}
+use Rattle.paths.specs.Meaning.{Table, rowsIn, wordsOfRows}
 use Rattle.tables.specs.Rising.{isRising}
 use Rattle.ends.specs.declared.messages.About.{About}
 use Rattle.ends.specs.declared.messages.About.the-variants.{Step, Rows, Nothing}
@@ -30,7 +29,7 @@ unfoldable pub valueMessage : ℕ → ℕ → List ℕ → List ℕ
 valueMessage run step values = messageOf run step (length values) values
 
 unfoldable pub rowMessage : ℕ → ℕ → Table → List ℕ
-rowMessage run r rows = messageOf run (rowsFrom + r) (length rows) (each (λ (row : Row). row) rows)
+rowMessage run r rows = messageOf run (rowsFrom + r) (length rows) (wordsOfRows rows)
 
 -- ---- understood
 
@@ -52,9 +51,13 @@ aboutOf steps relations second =
     pick (ltb second steps) (Step second)
     (pick (leb rowsFrom second && ltb second (rowsFrom + relations)) (Rows (second - rowsFrom)) Nothing)
 
--- "words not as many as the count says; count above 4,096": of k words for each that is counted
+-- how many words a message has by its own count, of k words for each that is counted
+abbrev pub messageLength : ℕ → List ℕ → ℕ
+messageLength k m = frontLength + countOf m * k
+
+-- "words not as many as the count says; count above 4,096"
 unfoldable pub counted : ℕ → List ℕ → Bool
-counted k m = leb (countOf m) 4096 && eqb (length m) (frontLength + countOf m * k)
+counted k m = leb (countOf m) 4096 && eqb (length m) (messageLength k m)
 
 -- and "values not strictly rising"
 unfoldable pub soundValues : List ℕ → Bool

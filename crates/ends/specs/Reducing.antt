@@ -38,9 +38,6 @@ isMissing p r applied n = ltb applied (stepsBefore p r n)
 unfoldable pub firstMissing : Program → ℕ → ℕ → ℕ → ℕ
 firstMissing p r applied n = getD (reducing (stepsOf p) r n) applied 0
 
--- what the function answers, by the numbers of some steps
-unfoldable pub missingIn : List ℕ → ℕ → Missing
-missingIn numbers applied = pick (ltb applied (length numbers)) (First (getD numbers applied 0)) None
-
-abbrev pub missingOf : Program → ℕ → ℕ → ℕ → Missing
-missingOf p r applied n = missingIn (reducing (stepsOf p) r n) applied
+-- what the function answers
+unfoldable pub missingOf : Program → ℕ → ℕ → ℕ → Missing
+missingOf p r applied n = pick (isMissing p r applied n) (First (firstMissing p r applied n)) None

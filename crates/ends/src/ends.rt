@@ -2,13 +2,14 @@
 use contents::envelope::Envelope;
 use fields::refusals;
 use ground::Verdict;
+use papers::checks::Papers;
 use papers::checks::PapersRead;
 use papers::programs::Program;
 ghost use mathlib.Core.Path.{_≡_};
 ghost use Prim.Native.Nat.{min};
 ghost use lib.ListN.{getD};
 ghost use Rattle.papers.specs.Checks.{shownPapers};
-ghost use Rattle.ends.specs.Ends.{overApplied, soundEnd, usable, noEnd};
+ghost use Rattle.ends.specs.Ends.{overApplied, soundEnd, usable, startOf, noEnd};
 
 // applied and arrived have a place for each relation; places behind the last relation play no part. used is how many words
 // of the store hold row messages.
@@ -22,23 +23,34 @@ pub struct End {
     pub used: usize,
 }
 
-// What stands beside a refused opening.
-pub fn no_end() -> End
-    ensures { λ r. ⌜ r ≡ noEnd ⌝ }
+// An end at its start: nothing was applied, and nothing has arrived.
+pub fn start_of(papers: Papers, site: u32, run: u32) -> End
+    ensures { λ r. ⌜ r ≡ startOf papers site run ⌝ }
 {
-    let envelope = contents::envelope::no_envelope();
-    let program = papers::programs::no_program();
+    let envelope = papers.envelope;
+    let program = papers.program;
     let applied = [0u32; 8];
     let arrived = [false; 8];
     End {
         envelope: envelope,
         program: program,
-        site: 0,
-        run: 0,
+        site: site,
+        run: run,
         applied: applied,
         arrived: arrived,
         used: 0,
     }
+}
+
+// What stands beside a refused opening.
+pub fn no_end() -> End
+    ensures { λ r. ⌜ r ≡ noEnd ⌝ }
+{
+    let papers = Papers {
+        envelope: contents::envelope::no_envelope(),
+        program: papers::programs::no_program(),
+    };
+    start_of(papers, 0, 0)
 }
 
 // Whether more steps of a relation are applied than the program has of it.

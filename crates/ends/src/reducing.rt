@@ -47,7 +47,7 @@ pub fn step_of(program: Program, n: usize) -> Step
     step_at(steps, program.count, n)
 }
 
-fn count_in(steps: [Step; 156], count: u8) -> u8
+fn steps_in_use(steps: [Step; 156], count: u8) -> u8
     ensures { λ r. ⌜ r ≡ length (take count steps) ⌝ }
 {
     ground::used::in_use(156, count) as u8
@@ -58,7 +58,7 @@ pub fn step_count(program: Program) -> u8
     ensures { λ r. ⌜ r ≡ stepCount program ⌝ }
 {
     let steps = program.steps;
-    count_in(steps, program.count)
+    steps_in_use(steps, program.count)
 }
 
 // How many of the first n steps there are.

@@ -1,9 +1,8 @@
 -- The laws of clauses: what a reading says of the outcome, and each return of the functions that read them.
-use mathlib.Core.Path.{_≡_, ap, sym, _∙_}
-use Prim.Native.Nat.{ℕ, _≤_}
+use mathlib.Core.Path.{_≡_, ap, _∙_}
+use Prim.Native.Nat.{ℕ}
 use mathlib.Core.List.{List}
 use mathlib.Core.Bool.{Bool, true, false}
-use lib.ListN.{length, getD, List·getD-eq-default}
 use borrow.Author.Tests.{eq-eqb, ne-eqb}
 use Rattle.ground.specs.Outcome.{Outcome}
 use Rattle.ground.specs.Outcome.Outcome.{good, bad}
@@ -12,8 +11,7 @@ use Rattle.fields.specs.Numbers.{numberAt, numberIn, shownNumber}
 use Rattle.fields.specs.declared.numbers.NumberRead.{NumberRead}
 use Rattle.fields.specs.declared.numbers.NumberRead.the-variants as n
 use Rattle.fields.proofs.NumberLaws.{number-good, number-bad}
-use Rattle.entries.specs.Relations.{noColumn, pastRelation}
-use Rattle.entries.specs.Places.{samePlace, placeAt, shownPlace}
+use Rattle.entries.specs.Places.{samePlace, namedColumn, placeAt, shownPlace}
 use Rattle.entries.specs.Clauses.{clause, domainOf, selectionAt, joined, joinAt, clauseAt, shownClause}
 use Rattle.entries.specs.declared.relations.Column.{Column}
 use Rattle.entries.specs.declared.relations.Relation.{Relation}
@@ -24,7 +22,7 @@ use Rattle.entries.specs.declared.clauses.Clause.{Clause}
 use Rattle.entries.specs.declared.clauses.ClauseKind.the-variants.{Selection, Join}
 use Rattle.entries.specs.declared.clauses.ClauseRead.{ClauseRead}
 use Rattle.entries.specs.declared.clauses.ClauseRead.the-variants.{Is, Not}
-use Rattle.entries.proofs.PlaceLaws.{place-good, place-bad}
+use Rattle.entries.proofs.PlaceCodeLaws.{place-good, place-bad}
 
 pub clause-good : (o : Outcome Clause) (r : ClauseRead) (c : Clause) (q : ℕ) → r ≡ shownClause o → r ≡ Is c q → o ≡ good c q
 unfolding shownClause
@@ -38,16 +36,9 @@ clause-bad (bad k u) r m q e g = cc
 
 -- ---- the domain of a column
 
-module _ (relations : List Relation) (a : Place) where
-  pub domain-past : length relations ≤ a .relation → 0 ≡ domainOf relations a
-  unfolding domainOf
-  domain-past h =
-      sym (ap (λ (r : Relation). getD (r .columns) (a .column) noColumn .domain) (List·getD-eq-default relations pastRelation h))
-
-  pub domain-is : (c : Column) → c ≡ getD (getD relations (a .relation) pastRelation .columns) (a .column) noColumn
-      → c .domain ≡ domainOf relations a
-  unfolding domainOf
-  domain-is c e = ap (λ (x : Column). x .domain) e
+pub domain-is : (relations : List Relation) (a : Place) (c : Column) → c ≡ namedColumn relations a → c .domain ≡ domainOf relations a
+unfolding domainOf
+domain-is relations a c e = ap (λ (x : Column). x .domain) e
 
 -- ---- a selection
 

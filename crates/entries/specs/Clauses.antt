@@ -3,7 +3,6 @@
 -- itself gives 6."
 use Prim.Native.Nat.{ℕ}
 use mathlib.Core.List.{List, _++_}
-use lib.ListN.{getD}
 use lib.Dec.{eqb}
 use Rattle.ground.specs.Tests.{pick}
 use Rattle.ground.specs.Outcome.{Outcome, next}
@@ -11,8 +10,7 @@ use Rattle.ground.specs.Outcome.Outcome.{good, bad}
 use Rattle.ground.specs.Bytes.{bytesOf}
 use Rattle.fields.specs.Refusals.{twoDomains, sameColumn}
 use Rattle.fields.specs.Numbers.{numberAt, numberIn}
-use Rattle.entries.specs.Relations.{noColumn, pastRelation}
-use Rattle.entries.specs.Places.{noPlace, samePlace, placeAt, placeBytes}
+use Rattle.entries.specs.Places.{noPlace, samePlace, namedColumn, placeAt, placeBytes}
 use Rattle.entries.specs.declared.places.Place.{Place}
 use Rattle.entries.specs.declared.relations.Relation.{Relation}
 use Rattle.entries.specs.declared.clauses.Clause.{Clause}
@@ -29,7 +27,7 @@ noClause = clause (Selection noPlace 0)
 
 -- the domain of a column; 0, which is a domain's number too, where there is no such relation or no such place in its array
 unfoldable pub domainOf : List Relation → Place → ℕ
-domainOf relations a = getD (getD relations (a .relation) pastRelation .columns) (a .column) noColumn .domain
+domainOf relations a = namedColumn relations a .domain
 
 -- a column, and a value of 32 bits
 unfoldable pub selectionAt : ℕ → List Relation → List ℕ → ℕ → Outcome Clause

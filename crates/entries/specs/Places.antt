@@ -8,10 +8,11 @@ use Rattle.ground.specs.Outcome.{Outcome, next}
 use Rattle.ground.specs.Outcome.Outcome.{good, bad}
 use Rattle.ground.specs.Bytes.{bytesOf}
 use Rattle.fields.specs.Numbers.{numberBelow}
-use Rattle.entries.specs.Relations.{pastRelation, columnCount}
+use Rattle.entries.specs.Relations.{noColumn, pastRelation, columnCount}
 use Rattle.entries.specs.declared.places.Place.{Place}
 use Rattle.entries.specs.declared.places.PlaceRead.{PlaceRead}
 use Rattle.entries.specs.declared.places.PlaceRead.the-variants.{Is, Not}
+use Rattle.entries.specs.declared.relations.Column.{Column}
 use Rattle.entries.specs.declared.relations.Relation.{Relation}
 
 abbrev pub place : ℕ → ℕ → Place
@@ -22,6 +23,10 @@ noPlace = place 0 0
 
 unfoldable pub samePlace : Place → Place → Bool
 samePlace a b = eqb (a .relation) (b .relation) && eqb (a .column) (b .column)
+
+-- the column that a place names: the empty one where there is no such relation or no such place in its array
+abbrev pub namedColumn : List Relation → Place → Column
+namedColumn relations a = getD (getD relations (a .relation) pastRelation .columns) (a .column) noColumn
 
 -- a relation of the count, and a column of that relation
 unfoldable pub placeAt : ℕ → List Relation → List ℕ → ℕ → Outcome Place

@@ -41,17 +41,11 @@ pub fn no_clause() -> Clause
     }
 }
 
-// The domain of a column; 0 where there is no such place.
+// The domain of a column; 0 where there is no such relation, or no such place in its array.
 pub fn domain_of(relations: [Relation; 8], place: Place) -> u8
     ensures { λ r. ⌜ r ≡ domainOf relations place ⌝ }
 {
-    let i = place.relation as usize;
-    if 8 <= i {
-        return 0;
-    }
-    let relation = relations[i];
-    let columns = relation.columns;
-    let column = crate::relations::column_at(columns, place.column as usize);
+    let column = crate::places::named_column(relations, place);
     column.domain
 }
 

@@ -1,11 +1,12 @@
-// A column named by its relation: what clauses, targets and steps speak of; and how many columns a relation has.
+// A column named by its relation: what clauses, targets and steps speak of; what column it is, and how many a relation has.
+use crate::relations::Column;
 use crate::relations::Relation;
 use fields::numbers::NumberRead;
 use fields::numbers::Width;
 ghost use mathlib.Core.Path.{_≡_};
 ghost use lib.ListN.{getD};
 ghost use Rattle.entries.specs.Relations.{pastRelation, columnCount};
-ghost use Rattle.entries.specs.Places.{noPlace, samePlace, placeAt, shownPlace};
+ghost use Rattle.entries.specs.Places.{noPlace, samePlace, namedColumn, placeAt, shownPlace};
 
 pub struct Place {
     pub relation: u8,
@@ -34,6 +35,19 @@ pub fn same_place(a: Place, b: Place) -> bool
     } else {
         false
     }
+}
+
+// The column that a place names; the empty one where there is no such relation, or no such place in its array.
+pub fn named_column(relations: [Relation; 8], place: Place) -> Column
+    ensures { λ r. ⌜ r ≡ namedColumn relations place ⌝ }
+{
+    let number = place.relation as usize;
+    if 8 <= number {
+        return crate::relations::no_column();
+    }
+    let relation = relations[number];
+    let columns = relation.columns;
+    crate::relations::column_at(columns, place.column as usize)
 }
 
 // How many columns a relation has; past the relations there are none.

@@ -7,7 +7,6 @@ use fields::puts::Written;
 use fields::refusals;
 use ground::Verdict;
 ghost use mathlib.Core.Path.{_≡_};
-ghost use Prim.Native.Nat.{_≤_};
 ghost use Rattle.ground.specs.Outcome.Outcome.{bad};
 ghost use Rattle.envelopes.specs.Envelope.{
   ended,

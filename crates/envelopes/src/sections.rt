@@ -1,10 +1,7 @@
 // The envelope's parts read one by one, each put into the envelope that came so far.
 use contents::envelope::Envelope;
-use entries::clauses::Clause;
 use entries::clauses::ClauseRead;
-use entries::places::Place;
 use entries::places::PlaceRead;
-use entries::relations::Relation;
 use fields::numbers::NumberRead;
 use fields::numbers::Width;
 use ground::Verdict;
@@ -15,7 +12,6 @@ ghost use Rattle.entries.specs.Relations.{relationAt};
 ghost use Rattle.entries.specs.Places.{placeAt};
 ghost use Rattle.entries.specs.Clauses.{clauseAt};
 ghost use Rattle.contents.specs.Parts.{
-  noEnvelope,
   withSizes,
   withRelations,
   withClauses,

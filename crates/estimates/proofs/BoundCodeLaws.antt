@@ -4,11 +4,11 @@ use mathlib.Core.Path.{_≡_, sym, ap, _∙_, subst}
 use Prim.Native.Nat.{_-_, _/_, _%_, _≤_, zero-le}
 use native.Mathlib.Nat.{le-trans}
 use native.Mathlib.Omega.{arith}
-use lib.ListN.{length, getD, replicate}
+use lib.ListN.{length, replicate}
 use Rattle.ground.specs.Lists.{Every, below, padded}
 use Rattle.ground.proofs.EveryLaws.{every-map, every-both, every-append, every-replicate, every-mapped, every-of, fixed-map}
 use Rattle.entries.specs.Relations.{noColumn, pastRelation, columnsOf}
-use Rattle.contents.specs.Parts.{sizesOf, relationsOf}
+use Rattle.contents.specs.Parts.{sizesOf, relationsOf, relationIn}
 use Rattle.envelopes.specs.Rules.{ColumnWithin, RelationWithin, Within, tidyRelation, tidy}
 use Rattle.entries.specs.declared.places.Place.{Place}
 use Rattle.entries.specs.declared.relations.Column.{Column}
@@ -45,7 +45,7 @@ module _ (e : Envelope) (w : Within e) (t : tidy e ≡ e) where
   distinct-most : (a : Place) → columnOf e a .distinct ≤ 1000000
   unfolding columnOf
   distinct-most a =
-      getD-every Few noColumn zero-le (getD (relationsOf e) (a .relation) pastRelation .columns)
+      getD-every Few noColumn zero-le (relationIn e (a .relation) .columns)
       (getD-every (λ (r : Relation). Every Few (r .columns)) pastRelation tt (relationsOf e) relations-few (a .relation)) (a .column)
 
   pub counts-most : (p : Profile) → Inside e p → Low (p .counts)

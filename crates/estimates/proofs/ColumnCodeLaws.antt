@@ -8,8 +8,8 @@ use Rattle.ground.specs.Lists.{sum, padded}
 use Rattle.ground.proofs.CountLaws.{split}
 use Rattle.ground.proofs.CollectingLaws.{padded-inside}
 use Rattle.ground.proofs.UsedLaws.{used-inside, used-outside}
-use Rattle.entries.specs.Relations.{noColumn, pastRelation}
-use Rattle.entries.specs.Places.{place}
+use Rattle.entries.specs.Relations.{noColumn}
+use Rattle.entries.specs.Places.{place, namedColumn}
 use Rattle.contents.specs.Parts.{sizesOf}
 use Rattle.contents.specs.Kept.{keptColumns, shownColumns}
 use Rattle.entries.specs.declared.places.Place.{Place}
@@ -20,10 +20,7 @@ use Rattle.contents.specs.declared.kept.Columns.{Columns}
 use Rattle.contents.proofs.KeptLaws.{kept-most}
 use Rattle.contents.proofs.PartLaws.{relation-inside, relation-outside}
 use Rattle.estimates.specs.Columns.{columnOf, domainSize, widthOf}
-use Rattle.estimates.proofs.TableCodeLaws.{Summing, summing-start, summing-more, summing-done}
-
-pub no-column : (relations : List Relation) (r c : ℕ) (z : Column) → length relations ≤ r → z ≡ noColumn → z ≡ getD (getD relations r pastRelation .columns) c noColumn
-no-column relations r c z h g = g ∙ simp (List·getD-eq-default relations pastRelation h)
+use Rattle.ground.proofs.SummingLaws.{Summing, summing-start, summing-more, summing-done}
 
 module _ (e : Envelope) (a : Place) where
   pub column-outside : (c : Column) → e .«relation_count» ≤ a .relation → c ≡ noColumn → c ≡ columnOf e a
@@ -31,7 +28,7 @@ module _ (e : Envelope) (a : Place) where
   column-outside c h g = g ∙ ap (λ (x : Relation). getD (x .columns) (a .column) noColumn) (sym (relation-outside e (a .relation) h))
 
   pub column-inside : (c : Column) → a .relation < e .«relation_count»
-      → c ≡ getD (getD (e .relations) (a .relation) pastRelation .columns) (a .column) noColumn → c ≡ columnOf e a
+      → c ≡ namedColumn (e .relations) a → c ≡ columnOf e a
   unfolding columnOf
   column-inside c h g = g ∙ ap (λ (x : Relation). getD (x .columns) (a .column) noColumn) (sym (relation-inside e (a .relation) h))
 

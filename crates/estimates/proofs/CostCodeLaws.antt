@@ -21,7 +21,8 @@ use Rattle.estimates.specs.Ready.{Cheap, Bounded}
 use Rattle.estimates.specs.Costs.{plainCosts, priced, stepCost, assemblyAt}
 use Rattle.estimates.specs.declared.profiles.Profile.{Profile}
 use Rattle.estimates.specs.declared.costs.Costs.{Costs}
-use Rattle.estimates.proofs.TableCodeLaws.{Table, table-done, Summing, summing-start, summing-more, summing-done}
+use Rattle.ground.proofs.NumberingLaws.{Numbering, numbering-done}
+use Rattle.ground.proofs.SummingLaws.{Summing, summing-start, summing-more, summing-done}
 
 -- ---- plain prices
 
@@ -34,9 +35,9 @@ plain-home k h = simp (eq-eqb (k / 8) (k % 8) h)
 pub plain-away : (k : ℕ) → (k / 8 ≡ k % 8 → ⊥) → 1 ≡ plainPrice k
 plain-away k h = simp (ne-eqb (k / 8) (k % 8) h)
 
-pub plain-whole : (i : ℕ) (out : List ℕ) → Table 64 0 plainPrice i out → 64 ≤ i → _≡_ {A = Costs} (record { prices = out }) plainCosts
+pub plain-whole : (i : ℕ) (out : List ℕ) → Numbering 64 0 plainPrice i out → 64 ≤ i → _≡_ {A = Costs} (record { prices = out }) plainCosts
 unfolding plainCosts
-plain-whole i out t h = rw (table-done 64 0 plainPrice i out t h)
+plain-whole i out t h = rw (numbering-done 64 0 plainPrice i out t h)
 
 -- ---- one transfer
 

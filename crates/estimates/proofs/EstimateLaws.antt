@@ -10,13 +10,12 @@ use Rattle.ground.proofs.TestLaws.{and-left, and-right, and-both}
 use Rattle.ground.proofs.CollectingLaws.{padded-take}
 use Rattle.entries.specs.Places.{samePlace}
 use Rattle.contents.specs.declared.envelope.Envelope.{Envelope}
-use Rattle.papers.specs.Programs.{noStep}
 use Rattle.paths.specs.declared.steps.Step.{Step}
 use Rattle.paths.proofs.PathLaws.{same-place, place-same}
 use Rattle.estimates.specs.Profile.{afterStep, localProfile}
 use Rattle.estimates.specs.Costs.{stepCost}
 use Rattle.estimates.specs.Kind.{costs, total}
-use Rattle.estimates.specs.Estimate.{sameStep, kindOf, line, linesOf, lineSteps, costsIn, estimated}
+use Rattle.estimates.specs.Estimate.{sameStep, kindOf, noLine, linesOf, lineSteps, costsIn, estimated}
 use Rattle.estimates.specs.declared.profiles.Profile.{Profile}
 use Rattle.estimates.specs.declared.costs.Costs.{Costs}
 use Rattle.estimates.specs.declared.lines.Line.{Line}
@@ -60,7 +59,7 @@ module _ (k : Costs) (e : Envelope) where
     pub estimated-lines : take (estimated k e ss site .count) (estimated k e ss site .lines) ≡ linesOf k e (localProfile e) ss
     unfolding estimated
     estimated-lines =
-        rw (lines-length (localProfile e) ss) at (padded-take 156 (line noStep 0 0) (linesOf k e (localProfile e) ss))
+        rw (lines-length (localProfile e) ss) at (padded-take 156 noLine (linesOf k e (localProfile e) ss))
 
     -- the total of an estimate, as something else gave it
     pub estimated-whole : (x : Estimate) → x ≡ estimated k e ss site → x .total ≡ total (kindOf k e) (localProfile e) site ss

@@ -21,7 +21,7 @@ use Rattle.papers.proofs.CheckLaws.{papers-taken, papers-refused, papers-sound}
 use Rattle.estimates.specs.Profile.{benefit, afterStep, localProfile}
 use Rattle.estimates.specs.Costs.{plainCosts, stepCost, assemblyAt}
 use Rattle.estimates.specs.Kind.{total}
-use Rattle.estimates.specs.Estimate.{kindOf, line, linesOf, estimated, noEstimate, estimateOf}
+use Rattle.estimates.specs.Estimate.{kindOf, line, noLine, linesOf, estimated, noEstimate, estimateOf}
 use Rattle.estimates.specs.Ready.{Ready}
 use Rattle.estimates.specs.Ready.{Bounded, Shrinks}
 use Rattle.estimates.specs.declared.profiles.Profile.{Profile}
@@ -38,17 +38,17 @@ use Rattle.estimates.proofs.SpendingCodeLaws.{Spending, spending-start,
 pub record Estimating (k : Costs) (e : Envelope) (steps : List Step) (n i : ℕ) (p : Profile) (spent : ℕ) (lines : List Line) : Type 0 where
   pub spending : Spending k e steps n i p spent
   pub done : List Line
-  pub collected : Collecting 156 (line noStep 0 0) done i lines
+  pub collected : Collecting 156 noLine done i lines
   pub told : linesOf k e (localProfile e) (take n steps) ≡ done ++ linesOf k e p (drop i (take n steps))
 
 module _ (k : Costs) (e : Envelope) (local : Profile) (w : Ready k e local) where
-  pub estimating-start : (f : Program) → Acceptable e f → (z : Line) → z ≡ line noStep 0 0
+  pub estimating-start : (f : Program) → Acceptable e f → (z : Line) → z ≡ noLine
       → Estimating k e (f .steps) (f .count) 0 local 0 (replicate 156 z)
   estimating-start f a z h =
       record {
         spending = spending-start k e local w f a;
         done = [];
-        collected = rw h (collecting-start 156 (line noStep 0 0));
+        collected = rw h (collecting-start 156 noLine);
         told = rw (w .local);
       }
 
@@ -86,7 +86,7 @@ module _ (k : Costs) (e : Envelope) (local : Profile) (w : Ready k e local) wher
         record {
           spending = spending-more k e local w steps n i p spent (a .spending) h (l .cost) (ap (λ (x : Line). x .cost) g) q u;
           done = a .done ++ (l ∷ []);
-          collected = collecting-push 156 (line noStep 0 0) (a .done) i lines (a .collected) l (omega (arith, a .spending .few));
+          collected = collecting-push 156 noLine (a .done) i lines (a .collected) l (omega (arith, a .spending .few));
           told =
               a .told ∙ ap (λ (x : List Step). a .done ++ linesOf k e p x) (rest k e local w steps n i p spent (a .spending) h)
               ∙ ap (λ (y : Profile). a .done ++ line s (benefit e p s) (stepCost k e p s) ∷ linesOf k e y (drop (i + 1) ss)) (sym u)
@@ -145,7 +145,7 @@ module _ (e : Envelope) (f : Program) (c : PapersRead) (g : c ≡ shownPapers (p
     unfolding estimateOf
     estimate-taken x h = h ∙ sym (rw taken)
 
-pub refused-is : (m q : ℕ) (z : Line) → z ≡ line noStep 0 0
+pub refused-is : (m q : ℕ) (z : Line) → z ≡ noLine
     → _≡_ {A = Estimate} (record { verdict = Refused m q; count = 0; lines = replicate 156 z; assembly = 0; total = 0 }) (noEstimate m q)
 unfolding noEstimate
 refused-is m q z h = rw h

@@ -12,7 +12,7 @@ use Rattle.ground.proofs.ListLaws.{getD-map, map-alike}
 use Rattle.ground.proofs.NumbersLaws.{below-length, below-getD, below-from}
 use Rattle.entries.specs.Relations.{pastRelation}
 use Rattle.entries.specs.Places.{place}
-use Rattle.contents.specs.Parts.{relationsOf}
+use Rattle.contents.specs.Parts.{relationIn}
 use Rattle.entries.specs.declared.places.Place.{Place}
 use Rattle.entries.specs.declared.relations.Column.{Column}
 use Rattle.entries.specs.declared.relations.Relation.{Relation}
@@ -22,7 +22,7 @@ use Rattle.estimates.specs.Short.{Y}
 use Rattle.estimates.specs.Columns.{columnOf, widthOf}
 use Rattle.estimates.specs.Profile.{estimatedRows, given, shrunk}
 use Rattle.estimates.specs.declared.profiles.Profile.{Profile}
-use Rattle.estimates.proofs.TableCodeLaws.{Table, table-done}
+use Rattle.ground.proofs.NumberingLaws.{Numbering, numbering-done}
 
 -- ---- the envelope's own estimates
 
@@ -30,30 +30,30 @@ pub no-rows : (relations : List Relation) (r : ℕ) → length relations ≤ r �
 no-rows relations r h = simp (List·getD-eq-default relations pastRelation h)
 
 module _ (e : Envelope) (r : ℕ) where
-  pub rows-inside : (n : ℕ) → r < e .«relation_count» → n ≡ getD (e .relations) r pastRelation .rows → n ≡ getD (relationsOf e) r pastRelation .rows
+  pub rows-inside : (n : ℕ) → r < e .«relation_count» → n ≡ getD (e .relations) r pastRelation .rows → n ≡ relationIn e r .rows
   rows-inside n h g = g ∙ ap (λ (x : Relation). x .rows) (sym (relation-inside e r h))
 
-  pub rows-outside : e .«relation_count» ≤ r → 0 ≡ getD (relationsOf e) r pastRelation .rows
+  pub rows-outside : e .«relation_count» ≤ r → 0 ≡ relationIn e r .rows
   rows-outside h = ap (λ (x : Relation). x .rows) (sym (relation-outside e r h))
 
 abbrev pub rowsIn : Envelope → ℕ → ℕ
-rowsIn e r = getD (relationsOf e) r pastRelation .rows
+rowsIn e r = relationIn e r .rows
 
 abbrev pub countIn : Envelope → ℕ → ℕ
 countIn e k = columnOf e (place (k / 8) (k % 8)) .distinct
 
 module _ (e : Envelope) where
-  pub rows-given : (i : ℕ) (out : List ℕ) → Table 8 0 (rowsIn e) i out → 8 ≤ i → out ≡ given e .rows
+  pub rows-given : (i : ℕ) (out : List ℕ) → Numbering 8 0 (rowsIn e) i out → 8 ≤ i → out ≡ given e .rows
   unfolding given
-  rows-given i out t h = table-done 8 0 (rowsIn e) i out t h
+  rows-given i out t h = numbering-done 8 0 (rowsIn e) i out t h
 
-  pub counts-given : (i : ℕ) (out : List ℕ) → Table 64 0 (countIn e) i out → 64 ≤ i → out ≡ given e .counts
+  pub counts-given : (i : ℕ) (out : List ℕ) → Numbering 64 0 (countIn e) i out → 64 ≤ i → out ≡ given e .counts
   unfolding given
-  counts-given i out t h = table-done 64 0 (countIn e) i out t h
+  counts-given i out t h = numbering-done 64 0 (countIn e) i out t h
 
-  pub widths-given : (i : ℕ) (out : List ℕ) → Table 8 0 (widthOf e) i out → 8 ≤ i → out ≡ given e .widths
+  pub widths-given : (i : ℕ) (out : List ℕ) → Numbering 8 0 (widthOf e) i out → 8 ≤ i → out ≡ given e .widths
   unfolding given
-  widths-given i out t h = table-done 8 0 (widthOf e) i out t h
+  widths-given i out t h = numbering-done 8 0 (widthOf e) i out t h
 
   pub given-whole : (rows counts widths : List ℕ) → rows ≡ given e .rows → counts ≡ given e .counts → widths ≡ given e .widths
       → _≡_ {A = Profile} (record { rows = rows; counts = counts; widths = widths }) (given e)
@@ -107,7 +107,7 @@ module _ (p : Profile) (a : Place) (n count : ℕ) where
   counts-whole =
       map-alike leftAt (countLeft p a n count) (below 64) (λ k m. sym (left-is k (below-from 64 m)))
 
-  pub shrunk-whole : (i : ℕ) (out rows : List ℕ) → Table 64 0 leftAt i out → 64 ≤ i → rows ≡ set (p .rows) (a .relation) n
+  pub shrunk-whole : (i : ℕ) (out rows : List ℕ) → Numbering 64 0 leftAt i out → 64 ≤ i → rows ≡ set (p .rows) (a .relation) n
       → _≡_ {A = Profile} (record { rows = rows; counts = out; widths = p .widths }) (shrunk p a n count)
   unfolding shrunk
-  shrunk-whole i out rows t h e = rw (e, table-done 64 0 leftAt i out t h ∙ counts-whole)
+  shrunk-whole i out rows t h e = rw (e, numbering-done 64 0 leftAt i out t h ∙ counts-whole)

@@ -18,7 +18,7 @@ use Rattle.ground.proofs.NumbersLaws.{below-length, below-getD}
 use Rattle.ground.proofs.UsedLaws.{used-inside}
 use Rattle.entries.specs.Relations.{noColumn, pastRelation, columnsOf}
 use Rattle.entries.specs.Clauses.{domainOf}
-use Rattle.contents.specs.Parts.{sizesOf, relationsOf, clausesOf, relationCount}
+use Rattle.contents.specs.Parts.{sizesOf, relationsOf, clausesOf, relationCount, relationIn}
 use Rattle.envelopes.specs.Rules.{ColumnWithin, RelationWithin, PlaceWithin, KindWithin, ClauseWithin, Within}
 use Rattle.entries.specs.declared.places.Place.{Place}
 use Rattle.entries.specs.declared.relations.Relation.{Relation}
@@ -122,7 +122,7 @@ module _ (e : Envelope) where
         rows = λ r. le-refl _;
         counts = λ i. le-refl _;
         widths = refl;
-        long-rows = mapped-length (λ r. getD (relationsOf e) r pastRelation .rows) 8;
+        long-rows = mapped-length (λ r. relationIn e r .rows) 8;
         long-counts = mapped-length (λ i. columnOf e (record { relation = i / 8; column = i % 8 }) .distinct) 64;
       }
 
@@ -162,21 +162,21 @@ module _ (e : Envelope) where
 -- ---- what the envelope says
 
 module _ (e : Envelope) (w : Within e) where
-  row-most : (r : ℕ) → getD (relationsOf e) r pastRelation .rows ≤ 1000000
+  row-most : (r : ℕ) → relationIn e r .rows ≤ 1000000
   row-most r =
       getD-every (λ (x : Relation). x .rows ≤ 1000000) pastRelation zero-le (relationsOf e)
       (every-map (RelationWithin (sizesOf e)) (λ (x : Relation). x .rows ≤ 1000000) (relationsOf e) (λ x h. h .rows) (w .each)) r
 
   pub column-within : (a : Place) → isPlace e a ≡ true
-      → ColumnWithin (sizesOf e) (getD (relationsOf e) (a .relation) pastRelation .rows) (columnOf e a)
+      → ColumnWithin (sizesOf e) (relationIn e (a .relation) .rows) (columnOf e a)
   unfolding columnOf columnsOf
   column-within a t =
       let i : PlaceWithin (relationsOf e) a = place-within e w a t in
-      let h : RelationWithin (sizesOf e) (getD (relationsOf e) (a .relation) pastRelation) =
+      let h : RelationWithin (sizesOf e) (relationIn e (a .relation)) =
       every-getD (RelationWithin (sizesOf e)) (relationsOf e) (a .relation) pastRelation (i .relation) (w .each) in
-      rw (used-inside (getD (relationsOf e) (a .relation) pastRelation .columns) (getD (relationsOf e) (a .relation) pastRelation .«column_count»)
+      rw (used-inside (relationIn e (a .relation) .columns) (relationIn e (a .relation) .«column_count»)
       (a .column) noColumn (omega (arith, i .column))) at
-      (every-getD _ (columnsOf (getD (relationsOf e) (a .relation) pastRelation)) (a .column) noColumn
+      (every-getD _ (columnsOf (relationIn e (a .relation))) (a .column) noColumn
       (omega (arith, i .column, h .whole)) (h .columns))
 
   -- columns on a path have one domain
@@ -219,7 +219,7 @@ module _ (e : Envelope) (w : Within e) where
     rows-most r =
         le-trans (i .rows r)
         (getD-every (λ n. n ≤ 1000000) 0 zero-le (given e .rows)
-        (every-mapped (λ n. n ≤ 1000000) (λ r. getD (relationsOf e) r pastRelation .rows) (below 8) (every-of _ (below 8) (λ r _. row-most r))) r)
+        (every-mapped (λ n. n ≤ 1000000) (λ r. relationIn e r .rows) (below 8) (every-of _ (below 8) (λ r _. row-most r))) r)
 
     pub count-distinct : (a : Place) → isPlace e a ≡ true → distinctOf p a ≤ columnOf e a .distinct
     unfolding given

@@ -3,8 +3,7 @@ use Prim.Native.Nat.{ℕ}
 use mathlib.Core.List.{map}
 use lib.ListN.{getD}
 use Rattle.ground.specs.Lists.{sum}
-use Rattle.entries.specs.Relations.{noColumn, pastRelation}
-use Rattle.entries.specs.Places.{place}
+use Rattle.entries.specs.Places.{place, namedColumn}
 use Rattle.contents.specs.Parts.{relationsOf, sizesOf}
 use Rattle.contents.specs.Kept.{keptColumns}
 use Rattle.entries.specs.declared.places.Place.{Place}
@@ -14,7 +13,7 @@ use Rattle.contents.specs.declared.envelope.Envelope.{Envelope}
 -- what the envelope says of a column: the empty column where there is no such relation, and what its array holds also behind
 -- the last column, which is the empty one in an envelope that was taken
 unfoldable pub columnOf : Envelope → Place → Column
-columnOf e a = getD (getD (relationsOf e) (a .relation) pastRelation .columns) (a .column) noColumn
+columnOf e a = namedColumn (relationsOf e) a
 
 unfoldable pub domainSize : Envelope → Place → ℕ
 domainSize e a = getD (sizesOf e) (columnOf e a .domain) 0

@@ -41,6 +41,10 @@ kindOf k e =
 abbrev pub line : Step → ℕ → ℕ → Line
 line s b c = record { step = s; benefit = b; cost = c }
 
+-- what stands behind the last line
+abbrev pub noLine : Line
+noLine = line noStep 0 0
+
 unfoldable pub linesOf : Costs → Envelope → Profile → List Step → List Line
 linesOf k e p [] = []
 linesOf k e p (s ∷ ss) = line s (benefit e p s) (stepCost k e p s) ∷ linesOf k e (afterStep e p s) ss
@@ -59,7 +63,7 @@ estimated k e ss site =
     record {
       verdict = Taken;
       count = length ss;
-      lines = padded 156 (line noStep 0 0) (linesOf k e p ss);
+      lines = padded 156 noLine (linesOf k e p ss);
       assembly = assemblyAt k e (afterAll (kindOf k e) p ss) site;
       total = total (kindOf k e) p site ss;
     }
@@ -69,7 +73,7 @@ estimated k e ss site =
 -- a refusal, with nothing beside it
 unfoldable pub noEstimate : ℕ → ℕ → Estimate
 noEstimate n p =
-    record { verdict = Refused n p; count = 0; lines = replicate 156 (line noStep 0 0); assembly = 0; total = 0 }
+    record { verdict = Refused n p; count = 0; lines = replicate 156 noLine; assembly = 0; total = 0 }
 
 unfoldable pub estimateOf : Outcome Papers → Estimate
 estimateOf (good q u) = estimated plainCosts (q .envelope) (stepsOf (q .program)) (q .program .site)

@@ -8,9 +8,8 @@ use lib.ListN.{getD, set}
 use lib.Dec.{eqb}
 use Rattle.ground.specs.Tests.{pick}
 use Rattle.ground.specs.Lists.{below}
-use Rattle.entries.specs.Relations.{pastRelation}
 use Rattle.entries.specs.Places.{place}
-use Rattle.contents.specs.Parts.{relationsOf, relationCount}
+use Rattle.contents.specs.Parts.{relationCount, relationIn}
 use Rattle.entries.specs.declared.places.Place.{Place}
 use Rattle.contents.specs.declared.envelope.Envelope.{Envelope}
 use Rattle.paths.specs.Implied.{impliedSelections}
@@ -36,7 +35,7 @@ widthAt p r = getD (p .widths) r 0
 unfoldable pub given : Envelope → Profile
 given e =
     record {
-      rows = map (λ r. getD (relationsOf e) r pastRelation .rows) (below 8);
+      rows = map (λ r. relationIn e r .rows) (below 8);
       counts = map (λ k. columnOf e (place (k / 8) (k % 8)) .distinct) (below 64);
       widths = map (widthOf e) (below 8);
     }

@@ -2,30 +2,15 @@
 use contents::envelope::Envelope;
 use entries::places::Place;
 use entries::relations::Column;
-use entries::relations::Relation;
 ghost use mathlib.Core.Path.{_≡_};
-ghost use lib.ListN.{getD};
-ghost use Rattle.entries.specs.Relations.{noColumn, pastRelation};
 ghost use Rattle.estimates.specs.Columns.{columnOf, domainSize, widthOf};
-
-fn column_in(relations: [Relation; 8], place: Place) -> Column
-    ensures { λ r. ⌜ r ≡ getD (getD relations (place .relation) pastRelation .columns) (place .column) noColumn ⌝ }
-{
-    let i = place.relation as usize;
-    if 8 <= i {
-        return entries::relations::no_column();
-    }
-    let relation = relations[i];
-    let columns = relation.columns;
-    entries::relations::column_at(columns, place.column as usize)
-}
 
 pub(crate) fn column_of(envelope: Envelope, place: Place) -> Column
     ensures { λ r. ⌜ r ≡ columnOf envelope place ⌝ }
 {
     let relations = envelope.relations;
     if place.relation < envelope.relation_count {
-        column_in(relations, place)
+        entries::places::named_column(relations, place)
     } else {
         entries::relations::no_column()
     }

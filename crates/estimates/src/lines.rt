@@ -2,8 +2,7 @@
 use ground::Verdict;
 use paths::steps::Step;
 ghost use mathlib.Core.Path.{_≡_};
-ghost use Rattle.papers.specs.Programs.{noStep};
-ghost use Rattle.estimates.specs.Estimate.{line};
+ghost use Rattle.estimates.specs.Estimate.{noLine};
 
 // A step of a program with its benefit and its cost in that program.
 pub struct Line {
@@ -23,7 +22,7 @@ pub struct Estimate {
 
 // What stands behind the last line.
 pub fn no_line() -> Line
-    ensures { λ r. ⌜ r ≡ line noStep 0 0 ⌝ }
+    ensures { λ r. ⌜ r ≡ noLine ⌝ }
 {
     let step = papers::programs::no_step();
     Line {

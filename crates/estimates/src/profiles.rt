@@ -2,7 +2,6 @@
 // selection or a step leaves of it. What goes through Y asks that no row and no count is above 1,000,000, so that no sum wraps.
 use contents::envelope::Envelope;
 use entries::places::Place;
-use entries::relations::Column;
 use entries::relations::Relation;
 use paths::steps::Step;
 ghost use mathlib.Core.Path.{_≡_};
@@ -10,7 +9,7 @@ ghost use Prim.Native.Nat.{_/_, _%_, _≤_, _<_};
 ghost use lib.ListN.{getD, set};
 ghost use Rattle.entries.specs.Relations.{pastRelation};
 ghost use Rattle.entries.specs.Places.{place};
-ghost use Rattle.contents.specs.Parts.{relationsOf};
+ghost use Rattle.contents.specs.Parts.{relationIn};
 ghost use Rattle.estimates.specs.Columns.{columnOf};
 ghost use Rattle.estimates.specs.Profile.{estimatedRows, distinctOf, widthAt, given, shrunk, afterSelection, remaining, rowsAfter, countAfter, afterStep};
 ghost use Rattle.estimates.specs.Ready.{Low};
@@ -34,7 +33,7 @@ fn rows_in(relations: [Relation; 8], i: usize) -> u64
 
 // The rows of a relation by the envelope; 0 where it has no such relation.
 fn given_rows(envelope: Envelope, relation: u8) -> u64
-    ensures { λ r. ⌜ r ≡ getD (relationsOf envelope) relation pastRelation .rows ⌝ }
+    ensures { λ r. ⌜ r ≡ relationIn envelope relation .rows ⌝ }
 {
     let relations = envelope.relations;
     if relation < envelope.relation_count {

@@ -71,9 +71,13 @@ unfoldable pub shownNumber : Outcome ℕ → NumberRead
 shownNumber (good v p) = Is v p
 shownNumber (bad n p) = Not n p
 
+-- where the version starts: behind the three letters of the mark
+abbrev pub behindMark : ℕ
+behindMark = 3
+
 -- what is made of the answers of a reader at the front of a paper: of the version behind the mark, and of both
 unfoldable pub versionBy : ℕ → NumberRead → NumberRead
-versionBy newest (Is v p) = pick (between 1 newest v) (Is v p) (Not wrongVersion 3)
+versionBy newest (Is v p) = pick (between 1 newest v) (Is v p) (Not wrongVersion behindMark)
 versionBy newest (Not n p) = Not n p
 
 unfoldable pub headBy : Verdict → ℕ → NumberRead → NumberRead

@@ -1,6 +1,6 @@
--- The laws of specs/, under its names (OrderedLaws, too, is of Order); of lists also by what they speak of: Every, Numbers, Sum, Combination, ListPart, Sublist.
--- The laws of loops, kind by kind: Filling, Searching, Choosing, Least, Collecting, Sifting, Mapping, Putting, Writing.
--- CountLaws and UsedLaws are of counts, UniqueLaws of contracts that are equations. docs/PROOFS.md says which loop takes which.
+-- The laws of specs/, under its names (OrderedLaws, too, is of Order), and of lists: Every, Each, Numbers, Sum, Combination, ListPart, Sublist.
+-- Of loops: Filling, Searching, Counting, Numbering, Summing, Choosing, Least, Collecting, Gathering, Sifting, Mapping, Putting, Writing; see
+-- docs/PROOFS.md for which loop takes which. CountLaws and UsedLaws are of counts, UniqueLaws of contracts that are equations.
 pub mod CountLaws
 pub mod OutcomeLaws
 pub mod RefusingLaws
@@ -8,6 +8,7 @@ pub mod FillingLaws
 pub mod SearchingLaws
 pub mod TestLaws
 pub mod ListLaws
+pub mod EachLaws
 pub mod EveryLaws
 pub mod NumbersLaws
 pub mod SumLaws
@@ -15,6 +16,10 @@ pub mod PuttingLaws
 pub mod ListPartLaws
 pub mod MappingLaws
 pub mod CollectingLaws
+pub mod GatheringLaws
+pub mod CountingLaws
+pub mod NumberingLaws
+pub mod SummingLaws
 pub mod SiftingLaws
 pub mod CombinationLaws
 pub mod RisingLaws

@@ -21,7 +21,7 @@ abbrev pub someFail : List Test → Bool
 someFail ts = any (λ (t : Test). t .fails) ts
 
 -- t is the first that fails
-pub record First (ts : List Test) (t : Test) : Type 0 where
+pub record FirstFailing (ts : List Test) (t : Test) : Type 0 where
   pub before : List Test
   pub after : List Test
   pub whole : ts ≡ before ++ (t ∷ after)
@@ -62,12 +62,12 @@ module _ {A : Type 0} where
 
   -- refused: by the first test that fails, or where none does by what comes after
   pub judged-bad : (ts : List Test) (o : Outcome A) (n p : ℕ) → judged ts o ≡ bad n p
-      → ((t : Test) × First ts t × (t .number ≡ n) × (t .position ≡ p)) ⊎ ((someFail ts ≡ false) × (o ≡ bad n p))
+      → ((t : Test) × FirstFailing ts t × (t .number ≡ n) × (t .position ≡ p)) ⊎ ((someFail ts ≡ false) × (o ≡ bad n p))
   judged-bad [] o n p h = inr (refl, h)
   judged-bad (t ∷ ts) o n p h = go (t .fails) refl h (judged-bad ts o n p)
     where
       Told : List Test → Type 0
-      Told ts = ((t : Test) × First ts t × (t .number ≡ n) × (t .position ≡ p)) ⊎ ((someFail ts ≡ false) × (o ≡ bad n p))
+      Told ts = ((t : Test) × FirstFailing ts t × (t .number ≡ n) × (t .position ≡ p)) ⊎ ((someFail ts ≡ false) × (o ≡ bad n p))
 
       later : t .fails ≡ false → Told ts → Told (t ∷ ts)
       later b (inl (u, f, m, q)) =
@@ -84,7 +84,7 @@ module _ {A : Type 0} where
       → List·Memᴰ n (map (λ (t : Test). t .number) ts) ⊎ (o ≡ bad n p)
   judged-number ts o n p h = go (judged-bad ts o n p h)
     where
-      go : ((t : Test) × First ts t × (t .number ≡ n) × (t .position ≡ p)) ⊎ ((someFail ts ≡ false) × (o ≡ bad n p))
+      go : ((t : Test) × FirstFailing ts t × (t .number ≡ n) × (t .position ≡ p)) ⊎ ((someFail ts ≡ false) × (o ≡ bad n p))
           → List·Memᴰ n (map (λ (t : Test). t .number) ts) ⊎ (o ≡ bad n p)
       go (inl (t, f, m, q)) =
           inl (rw (← m, f .whole) (map-mem (λ (u : Test). u .number) (Memᴰ·append-right (f .before) (List·Memᴰ·head refl))))

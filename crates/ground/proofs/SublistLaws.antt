@@ -45,10 +45,10 @@ module _ {A : Type 0} where
       go (inl q) ih = List·Memᴰ·head (q ∙ e)
       go (inr n) ih = List·Memᴰ·tail (ih n)
 
-  pub part-length : {l k : List A} → Sublistᴰ l k → length l ≤ length k
-  part-length Sublistᴰ·slnil = le-refl 0
-  part-length (Sublistᴰ·cons h) = omega (arith, part-length h)
-  part-length (Sublistᴰ·cons-cons e h) = omega (arith, part-length h)
+  pub sublist-length : {l k : List A} → Sublistᴰ l k → length l ≤ length k
+  sublist-length Sublistᴰ·slnil = le-refl 0
+  sublist-length (Sublistᴰ·cons h) = omega (arith, sublist-length h)
+  sublist-length (Sublistᴰ·cons-cons e h) = omega (arith, sublist-length h)
 
   pub part-ordered : (Before : A → A → Type 0) {l k : List A} → Sublistᴰ l k → Ordered Before k → Ordered Before l
   part-ordered Before Sublistᴰ·slnil o = tt

@@ -6,7 +6,7 @@ use mathlib.Core.List.{List, append-assoc, append-nil}
 use mathlib.Core.Logic.{_↔_}
 use Prim.Native.Nat.{ℕ, _≤_, _<_}
 use native.Mathlib.Omega.{arith}
-use lib.ListN.{length, getD}
+use lib.ListN.{length}
 use lib.Dec.{ltb, eqb}
 use borrow.Author.Tests.{ltb-true, eqb-true}
 use Rattle.ground.specs.Bytes.{Bytes}
@@ -23,7 +23,7 @@ use Rattle.fields.specs.Exact.{Reads, Exact}
 use Rattle.fields.proofs.ExactReading.{done, tested, restated, last, whole-paper, chained, numbered-exact}
 use Rattle.fields.proofs.ExactNumbers.{in-exact, that-exact, head-exact}
 use Rattle.entries.specs.Relations.{pastRelation}
-use Rattle.contents.specs.Parts.{sizesOf, relationsOf, relationCount, columnsIn}
+use Rattle.contents.specs.Parts.{sizesOf, relationsOf, relationCount, relationIn, columnsIn}
 use Rattle.contents.specs.Sites.{siteOf, isAt, holds}
 use Rattle.envelopes.specs.Envelope.{checkEnvelope}
 use Rattle.envelopes.specs.Rules.{RelationWithin, Within, tidy}
@@ -51,7 +51,7 @@ unfolding holds isAt siteOf
 site-small e within site h =
     let (r, _, below, here) = some-at (isAt e site) 0 (relationCount e) (sym (any-numbers (isAt e site) 0 (relationCount e)) ∙ h) in
     let same : siteOf e r ≡ site = eqb-true (siteOf e r) site (and-right (ltb r (relationCount e)) (eqb (siteOf e r) site) here) in
-    let fine : RelationWithin (sizesOf e) (getD (relationsOf e) r pastRelation) =
+    let fine : RelationWithin (sizesOf e) (relationIn e r) =
     every-getD (RelationWithin (sizesOf e)) (relationsOf e) r pastRelation (omega (arith, within .whole-relations)) (within .each) in
     omega (arith, same, fine .site)
 

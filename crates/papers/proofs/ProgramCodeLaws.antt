@@ -28,7 +28,7 @@ use Rattle.entries.specs.declared.places.PlaceRead.the-variants as p
 use Rattle.envelopes.specs.Envelope.{checkEnvelope, shownEnvelope}
 use Rattle.contents.specs.declared.envelope.Envelope.{Envelope}
 use Rattle.envelopes.specs.declared.reading.EnvelopeRead.{EnvelopeRead}
-use Rattle.entries.proofs.PlaceLaws.{place-good, place-bad}
+use Rattle.entries.proofs.PlaceCodeLaws.{place-good, place-bad}
 use Rattle.envelopes.proofs.ReadingLaws.{read-taken, read-refused}
 use Rattle.envelopes.proofs.ExactEnvelope.{check-sound}
 use Rattle.envelopes.specs.Rules.{Within}

@@ -1,5 +1,5 @@
 -- The laws of specs/, under its names; Code in a name: only returns of functions cite them (Equal, CheckedImplied: of Implied).
--- StepCountLaws: 156 steps hold every legal one. GatheringLaws: a loop that gathers lists one after the other.
+-- StepCountLaws: 156 steps hold every legal one.
 -- By LabelLaws, labels are equal exactly where a path joins two nodes; programs and the planner go by labels.
 pub mod PathLaws
 pub mod MeaningLaws
@@ -9,7 +9,6 @@ pub mod StepLaws
 pub mod StepCodeLaws
 pub mod StepCountLaws
 pub mod ImpliedLaws
-pub mod GatheringLaws
 pub mod ImpliedCodeLaws
 pub mod EqualCodeLaws
 pub mod CheckedImpliedCodeLaws

@@ -23,13 +23,12 @@ use Rattle.paths.specs.declared.steps.Step.{Step}
 use Rattle.papers.specs.declared.programs.Program.{Program}
 use Rattle.estimates.specs.Profile.{localProfile}
 use Rattle.estimates.specs.Kind.{Kind, total}
-use Rattle.planner.specs.Choice.{stepsAt, dropped}
+use Rattle.planner.specs.Choice.{butFor, stepsAt, dropped}
 use Rattle.estimates.specs.Estimate.{kindOf}
 use Rattle.estimates.specs.declared.costs.Costs.{Costs}
 use Rattle.planner.specs.Numbers.{shownNumbers}
 use Rattle.planner.specs.declared.numbers.Numbers.{Numbers}
-use Rattle.ground.proofs.SublistLaws.{fewer}
-use Rattle.planner.proofs.DropLaws.{others, steps-all}
+use Rattle.planner.proofs.DropLaws.{steps-all}
 use Rattle.estimates.proofs.EstimateLaws.{lines-costs, estimated-whole}
 use Rattle.planner.proofs.OrderCodeLaws.{lines-order, dearest-few}
 use Rattle.estimates.specs.declared.lines.Estimate.{Estimate}
@@ -37,7 +36,7 @@ use Rattle.ground.proofs.ListLaws.{filter-alike}
 use Rattle.contents.specs.Sites.{isAt}
 use Rattle.planner.specs.Choice.{dearestFirst}
 use Rattle.estimates.specs.Kind.{costs}
-use Rattle.estimates.specs.Estimate.{line, linesOf, costsIn, estimated}
+use Rattle.estimates.specs.Estimate.{noLine, linesOf, costsIn, estimated}
 use Rattle.planner.specs.Plan.{dropsAt}
 use Rattle.ground.specs.Lists.{padded, filter}
 
@@ -72,11 +71,11 @@ numbers-legal e f a l h =
 -- ---- one number more
 
 module _ {P S : Type 0} (k : Kind P S) (p : P) (site : ℕ) (steps : List ℕ → List S) (i : ℕ) (order kept : List ℕ) where
-  one-dropped : total k p site (steps (others i kept)) < total k p site (steps kept)
-      → dropped k p site steps (i ∷ order) kept ≡ dropped k p site steps order (others i kept)
+  one-dropped : total k p site (steps (butFor i kept)) < total k p site (steps kept)
+      → dropped k p site steps (i ∷ order) kept ≡ dropped k p site steps order (butFor i kept)
   one-dropped h = rw (lt-ltb _ _ h)
 
-  one-kept : total k p site (steps kept) ≤ total k p site (steps (others i kept))
+  one-kept : total k p site (steps kept) ≤ total k p site (steps (butFor i kept))
       → dropped k p site steps (i ∷ order) kept ≡ dropped k p site steps order kept
   one-kept h = rw (le-ltb _ _ h)
 
@@ -123,12 +122,12 @@ module _ (k : Costs) (e : Envelope) (f : Program) (a : Acceptable e f) (order : 
     kept-few = omega (arith, shown-count (g .left) kept (g .held), g .few)
 
     abbrev less : List ℕ
-    less = others (getD order i 0) (g .left)
+    less = butFor (getD order i 0) (g .left)
 
     -- the program without the step that is looked at
-    module _ (fewer : Numbers) (u : fewer ≡ shownNumbers (others (getD order i 0) (take (kept .count) (kept .all)))) where
+    module _ (fewer : Numbers) (u : fewer ≡ shownNumbers (butFor (getD order i 0) (take (kept .count) (kept .all)))) where
       fewer-is : fewer ≡ shownNumbers less
-      fewer-is = u ∙ ap (λ (l : List ℕ). shownNumbers (others (getD order i 0) l)) (shown-used (g .left) kept (g .held))
+      fewer-is = u ∙ ap (λ (l : List ℕ). shownNumbers (butFor (getD order i 0) l)) (shown-used (g .left) kept (g .held))
 
       less-few : length less ≤ 156
       less-few = omega (arith, filter-length (λ j. not (eqb (getD order i 0) j)) (g .left), g .few)
@@ -216,7 +215,7 @@ module _ (k : Costs) (e : Envelope) (f : Program) (a : Acceptable e f) where
     pub total-before : x .total ≡ total (kindOf k e) (localProfile e) (f .site) (stepsOf f)
     total-before = estimated-whole k e (stepsOf f) (f .site) x u
 
-    lines-before : x .lines ≡ padded 156 (line noStep 0 0) (linesOf k e (localProfile e) (stepsOf f))
+    lines-before : x .lines ≡ padded 156 noLine (linesOf k e (localProfile e) (stepsOf f))
     unfolding estimated
     lines-before = rw u
 

@@ -24,20 +24,18 @@ use Rattle.ground.proofs.OrderLaws.{ordered-filter}
 use Rattle.ground.proofs.ChoiceLaws.{First, Chosen, greatest-chosen}
 use Rattle.estimates.specs.Kind.{Kind, costs, total}
 use Rattle.planner.specs.Promise.{Dearer}
-use Rattle.planner.specs.Choice.{dearestFirst, stepsAt, dropped, drops}
+use Rattle.planner.specs.Choice.{butFor, dearestFirst, stepsAt, dropped, drops}
 use Rattle.ground.proofs.SublistLaws.{fewer, filter-part, part-map, first-mem, first-before}
 
--- one number left out
-abbrev pub others : ℕ → List ℕ → List ℕ
-others i l = filter (λ j. not (eqb i j)) l
+-- ---- without one number
 
-others-self : (i : ℕ) → not (eqb i i) ≡ false
-others-self i = rw (eq-eqb i i refl)
+but-for-self : (i : ℕ) → not (eqb i i) ≡ false
+but-for-self i = rw (eq-eqb i i refl)
 
-others-mem : (i j : ℕ) (l : List ℕ) → List·Memᴰ j l → (j ≡ i) ⊎ List·Memᴰ j (others i l)
-others-mem i j l m = go (eqb i j) refl
+but-for-mem : (i j : ℕ) (l : List ℕ) → List·Memᴰ j l → (j ≡ i) ⊎ List·Memᴰ j (butFor i l)
+but-for-mem i j l m = go (eqb i j) refl
   where
-    go : (b : Bool) → eqb i j ≡ b → (j ≡ i) ⊎ List·Memᴰ j (others i l)
+    go : (b : Bool) → eqb i j ≡ b → (j ≡ i) ⊎ List·Memᴰ j (butFor i l)
     go true e = inl (sym (eqb-true i j e))
     go false e = inr (filter-mem (λ h. not (eqb i h)) m (rw e))
 
@@ -52,13 +50,13 @@ module _ (cs : List ℕ) where
   dearest-from (suc n) left {i} m = go (firstOfGreatest rank left) (greatest-chosen rank left) (λ l. dearest-from n l) m
     where
       go : (o : Option ℕ) → Chosen rank left o → ((l : List ℕ) → List·Memᴰ i (dearestFirst cs n l) → List·Memᴰ i l)
-          → List·Memᴰ i (elim o [ none ↦ [] | some j ↦ j ∷ dearestFirst cs n (others j left) ]) → List·Memᴰ i left
+          → List·Memᴰ i (elim o [ none ↦ [] | some j ↦ j ∷ dearestFirst cs n (butFor j left) ]) → List·Memᴰ i left
       go none c ih m = elim m [ ]
       go (some j) c ih m = there (List·Memᴰ·cases-cons m)
         where
-          there : (i ≡ j) ⊎ List·Memᴰ i (dearestFirst cs n (others j left)) → List·Memᴰ i left
+          there : (i ≡ j) ⊎ List·Memᴰ i (dearestFirst cs n (butFor j left)) → List·Memᴰ i left
           there (inl e) = rw e (first-mem rank c)
-          there (inr h) = filter-from _ left (ih (others j left) h) .0
+          there (inr h) = filter-from _ left (ih (butFor j left) h) .0
 
   dearest-mem : (n : ℕ) (left : List ℕ) → length left ≤ n → {i : ℕ} → List·Memᴰ i left → List·Memᴰ i (dearestFirst cs n left)
   dearest-mem zero [] h m = elim m [ ]
@@ -67,15 +65,15 @@ module _ (cs : List ℕ) where
     where
       go : (o : Option ℕ) → Chosen rank left o
           → ((l : List ℕ) → length l ≤ n → List·Memᴰ i l → List·Memᴰ i (dearestFirst cs n l))
-          → List·Memᴰ i (elim o [ none ↦ [] | some j ↦ j ∷ dearestFirst cs n (others j left) ])
+          → List·Memᴰ i (elim o [ none ↦ [] | some j ↦ j ∷ dearestFirst cs n (butFor j left) ])
       go none c ih = let z : rank i ≡ 0 = every-at (λ (j : ℕ). rank j ≡ 0) left c m in absurd (omega arith)
-      go (some j) c ih = there (others-mem j i left m)
+      go (some j) c ih = there (but-for-mem j i left m)
         where
-          there : (i ≡ j) ⊎ List·Memᴰ i (others j left) → List·Memᴰ i (j ∷ dearestFirst cs n (others j left))
+          there : (i ≡ j) ⊎ List·Memᴰ i (butFor j left) → List·Memᴰ i (j ∷ dearestFirst cs n (butFor j left))
           there (inl e) = List·Memᴰ·head e
           there (inr q) =
               List·Memᴰ·tail
-              (ih (others j left) (omega (arith, fewer (λ h. not (eqb j h)) left (first-mem rank c) (others-self j))) q)
+              (ih (butFor j left) (omega (arith, fewer (λ h. not (eqb j h)) left (first-mem rank c) (but-for-self j))) q)
 
   -- each number that is given, and no other
   pub dearest-member : (n : ℕ) (left : List ℕ) → length left ≤ n → (i : ℕ) → List·Memᴰ i left ↔ List·Memᴰ i (dearestFirst cs n left)
@@ -96,13 +94,13 @@ module _ (cs : List ℕ) where
   dearest-ordered (suc n) left o = go (firstOfGreatest rank left) (greatest-chosen rank left) (dearest-ordered n)
     where
       go : (q : Option ℕ) → Chosen rank left q → ((l : List ℕ) → Ordered _<_ l → Ordered (Dearer cs) (dearestFirst cs n l))
-          → Ordered (Dearer cs) (elim q [ none ↦ [] | some i ↦ i ∷ dearestFirst cs n (others i left) ])
+          → Ordered (Dearer cs) (elim q [ none ↦ [] | some i ↦ i ∷ dearestFirst cs n (butFor i left) ])
       go none c ih = tt
       go (some i) c ih = (
-        every-of (Dearer cs i) (dearestFirst cs n (others i left))
-            (λ j m. let (h, e) = filter-from (λ x. not (eqb i x)) left (dearest-from n (others i left) m) in
+        every-of (Dearer cs i) (dearestFirst cs n (butFor i left))
+            (λ j m. let (h, e) = filter-from (λ x. not (eqb i x)) left (dearest-from n (butFor i left) m) in
             first-dearer left i j c o h (not-true _ e)),
-        ih (others i left) (ordered-filter _<_ (λ x. not (eqb i x)) left o),
+        ih (butFor i left) (ordered-filter _<_ (λ x. not (eqb i x)) left o),
       )
 
 -- all numbers have all steps
@@ -121,17 +119,17 @@ module _ {P S : Type 0} (k : Kind P S) where
   module _ (p : P) (site : ℕ) (steps : List ℕ → List S) where
     -- a step is dropped exactly where the total becomes strictly lower
     pub dropped-one : (i : ℕ) (order kept : List ℕ)
-        → ((total k p site (steps (others i kept)) < total k p site (steps kept))
-        × (dropped k p site steps (i ∷ order) kept ≡ dropped k p site steps order (others i kept)))
-        ⊎ ((total k p site (steps kept) ≤ total k p site (steps (others i kept)))
+        → ((total k p site (steps (butFor i kept)) < total k p site (steps kept))
+        × (dropped k p site steps (i ∷ order) kept ≡ dropped k p site steps order (butFor i kept)))
+        ⊎ ((total k p site (steps kept) ≤ total k p site (steps (butFor i kept)))
         × (dropped k p site steps (i ∷ order) kept ≡ dropped k p site steps order kept))
-    dropped-one i order kept = go (ltb (total k p site (steps (others i kept))) (total k p site (steps kept))) refl
+    dropped-one i order kept = go (ltb (total k p site (steps (butFor i kept))) (total k p site (steps kept))) refl
       where
-        go : (b : Bool) → ltb (total k p site (steps (others i kept))) (total k p site (steps kept)) ≡ b
-            → ((total k p site (steps (others i kept)) < total k p site (steps kept))
-            × (dropped k p site steps order (pick b (others i kept) kept) ≡ dropped k p site steps order (others i kept)))
-            ⊎ ((total k p site (steps kept) ≤ total k p site (steps (others i kept)))
-            × (dropped k p site steps order (pick b (others i kept) kept) ≡ dropped k p site steps order kept))
+        go : (b : Bool) → ltb (total k p site (steps (butFor i kept))) (total k p site (steps kept)) ≡ b
+            → ((total k p site (steps (butFor i kept)) < total k p site (steps kept))
+            × (dropped k p site steps order (pick b (butFor i kept) kept) ≡ dropped k p site steps order (butFor i kept)))
+            ⊎ ((total k p site (steps kept) ≤ total k p site (steps (butFor i kept)))
+            × (dropped k p site steps order (pick b (butFor i kept) kept) ≡ dropped k p site steps order kept))
         go true e = inl (ltb-true _ _ e, refl)
         go false e = inr (ltb-false _ _ e, refl)
 
@@ -144,27 +142,27 @@ module _ {P S : Type 0} (k : Kind P S) where
         Lower : List ℕ → List ℕ → Type 0
         Lower l kept = (l ≡ kept) ⊎ (total k p site (steps l) < total k p site (steps kept))
 
-        less : total k p site (steps (others i kept)) < total k p site (steps kept) → Lower (dropped k p site steps order (others i kept)) (others i kept)
-            → total k p site (steps (dropped k p site steps order (others i kept))) < total k p site (steps kept)
+        less : total k p site (steps (butFor i kept)) < total k p site (steps kept) → Lower (dropped k p site steps order (butFor i kept)) (butFor i kept)
+            → total k p site (steps (dropped k p site steps order (butFor i kept))) < total k p site (steps kept)
         less l (inl e) = rw e l
         less l (inr h) = omega arith
 
-        go : ((total k p site (steps (others i kept)) < total k p site (steps kept))
-            × (dropped k p site steps (i ∷ order) kept ≡ dropped k p site steps order (others i kept)))
-            ⊎ ((total k p site (steps kept) ≤ total k p site (steps (others i kept)))
+        go : ((total k p site (steps (butFor i kept)) < total k p site (steps kept))
+            × (dropped k p site steps (i ∷ order) kept ≡ dropped k p site steps order (butFor i kept)))
+            ⊎ ((total k p site (steps kept) ≤ total k p site (steps (butFor i kept)))
             × (dropped k p site steps (i ∷ order) kept ≡ dropped k p site steps order kept))
             → ((l : List ℕ) → Lower (dropped k p site steps order l) l)
             → Lower (dropped k p site steps (i ∷ order) kept) kept
-        go (inl (l, e)) ih = inr (rw e (less l (ih (others i kept))))
+        go (inl (l, e)) ih = inr (rw e (less l (ih (butFor i kept))))
         go (inr (_, e)) ih = rw e (ih kept)
 
     pub dropped-part : (order kept : List ℕ) → Sublistᴰ (dropped k p site steps order kept) kept
     dropped-part [] kept = Sublistᴰ·refl kept
-    dropped-part (i ∷ order) kept = go (ltb (total k p site (steps (others i kept))) (total k p site (steps kept))) (dropped-part order)
+    dropped-part (i ∷ order) kept = go (ltb (total k p site (steps (butFor i kept))) (total k p site (steps kept))) (dropped-part order)
       where
         go : (b : Bool) → ((l : List ℕ) → Sublistᴰ (dropped k p site steps order l) l)
-            → Sublistᴰ (dropped k p site steps order (pick b (others i kept) kept)) kept
-        go true ih = Sublistᴰ·trans (ih (others i kept)) (filter-part (λ j. not (eqb i j)) kept)
+            → Sublistᴰ (dropped k p site steps order (pick b (butFor i kept) kept)) kept
+        go true ih = Sublistᴰ·trans (ih (butFor i kept)) (filter-part (λ j. not (eqb i j)) kept)
         go false ih = ih kept
 
     -- what is not looked at stays
@@ -172,16 +170,16 @@ module _ {P S : Type 0} (k : Kind P S) where
         → List·Memᴰ j (dropped k p site steps order kept)
     dropped-stays [] kept j m out = m
     dropped-stays (i ∷ order) kept j m out =
-        go (ltb (total k p site (steps (others i kept))) (total k p site (steps kept)))
+        go (ltb (total k p site (steps (butFor i kept))) (total k p site (steps kept)))
         (λ l n. dropped-stays order l j n (λ h. out (List·Memᴰ·tail h)))
       where
-        still : (j ≡ i) ⊎ List·Memᴰ j (others i kept) → List·Memᴰ j (others i kept)
+        still : (j ≡ i) ⊎ List·Memᴰ j (butFor i kept) → List·Memᴰ j (butFor i kept)
         still (inl e) = absurd (out (List·Memᴰ·head e))
         still (inr n) = n
 
         go : (b : Bool) → ((l : List ℕ) → List·Memᴰ j l → List·Memᴰ j (dropped k p site steps order l))
-            → List·Memᴰ j (dropped k p site steps order (pick b (others i kept) kept))
-        go true ih = ih (others i kept) (still (others-mem i j kept m))
+            → List·Memᴰ j (dropped k p site steps order (pick b (butFor i kept) kept))
+        go true ih = ih (butFor i kept) (still (but-for-mem i j kept m))
         go false ih = ih kept m
 
   -- ---- the program after drops

@@ -9,16 +9,16 @@ use mathlib.Core.Option.{Option, none, some}
 use Prim.Native.Nat.{ℕ, _+_, _≤_, _<_}
 use native.Mathlib.Nat.{le-refl}
 use native.Mathlib.Omega.{arith}
-use lib.ListN.{length, getD, take}
+use lib.ListN.{length, take}
 use borrow.Author.Tests.{lt-ltb, eq-eqb}
-use Rattle.ground.specs.Lists.{filter, Every, below, sum}
+use Rattle.ground.specs.Lists.{Every, below, sum}
 use Rattle.ground.specs.Order.{Apart, Once}
 use Rattle.ground.proofs.TestLaws.{and-both}
 use Rattle.ground.proofs.ListLaws.{any-of, filter-mem, filter-from}
 use Rattle.ground.proofs.EveryLaws.{every-of, every-getD}
 use Rattle.ground.proofs.NumbersLaws.{below-mem}
 use Rattle.entries.specs.Relations.{pastRelation}
-use Rattle.contents.specs.Parts.{sizesOf, relationsOf, relationCount}
+use Rattle.contents.specs.Parts.{sizesOf, relationsOf, relationCount, relationIn}
 use Rattle.contents.specs.Sites.{siteOf, isAt, holds}
 use Rattle.envelopes.specs.Rules.{RelationWithin, Within}
 use Rattle.contents.specs.declared.envelope.Envelope.{Envelope}
@@ -32,17 +32,17 @@ use Rattle.estimates.specs.Costs.{assemblyAt}
 use Rattle.planner.specs.Choice.{Handed, cheapest, fallback}
 use Rattle.estimates.specs.Kind.{afterAll, total}
 use Rattle.estimates.specs.Estimate.{kindOf, linesOf, estimated}
-use Rattle.planner.specs.Plan.{siteFor, greedySteps, dropsAt, afterDrops, planned, planFor}
+use Rattle.planner.specs.Plan.{sitesHolding, siteFor, greedySteps, dropsAt, afterDrops, planned, planFor}
 use Rattle.estimates.specs.declared.profiles.Profile.{Profile}
 use Rattle.estimates.specs.declared.costs.Costs.{Costs}
 use Rattle.estimates.specs.declared.lines.Line.{Line}
-use Rattle.ground.proofs.SublistLaws.{part-mem, part-length, part-ordered}
+use Rattle.ground.proofs.SublistLaws.{part-mem, sublist-length, part-ordered}
 use Rattle.planner.proofs.ChoiceLaws.{Greedy, greedy-run, greedy-from, greedy-once, greedy-few, CheapestOf, cheapest-is, fallback-is, fallback-total}
 use Rattle.estimates.proofs.EstimateLaws.{step-tells, estimated-lines, estimated-total}
 use Rattle.planner.proofs.DropLaws.{drops-part}
 
 -- a site that holds a relation
-pub some-site : (e : Envelope) → Within e → List·Memᴰ (siteOf e 0) (filter (holds e) (below 8))
+pub some-site : (e : Envelope) → Within e → List·Memᴰ (siteOf e 0) (sitesHolding e)
 unfolding siteOf isAt holds
 some-site e w =
     filter-mem (holds e) (below-mem (siteOf e 0) 8 (omega (arith, low)))
@@ -52,7 +52,7 @@ some-site e w =
     some-relation : 0 < length (relationsOf e)
     some-relation = omega (arith, w .relations, w .whole-relations)
 
-    low : getD (relationsOf e) 0 pastRelation .site ≤ 7
+    low : relationIn e 0 .site ≤ 7
     low = every-getD (RelationWithin (sizesOf e)) (relationsOf e) 0 pastRelation some-relation (w .each) .site
 
 module _ (k : Costs) (e : Envelope) where
@@ -105,7 +105,7 @@ module _ (k : Costs) (e : Envelope) where
   part-few w ss h =
       omega (
         arith,
-        part-length h,
+        sublist-length h,
         greedy-few (kindOf k e) step-tells (legalSteps e) (localProfile e) (greedySteps k e) plan-greedy,
         legal-few e w,
       )
@@ -121,24 +121,21 @@ module _ (k : Costs) (e : Envelope) where
 
   -- ---- the site
 
-  abbrev sites : List ℕ
-  sites = filter (holds e) (below 8)
-
-  pub site-chosen : (p : Profile) → Within e → List·Memᴰ (siteFor k e p) sites
+  pub site-chosen : (p : Profile) → Within e → List·Memᴰ (siteFor k e p) (sitesHolding e)
   unfolding siteFor
-  site-chosen p w = go (cheapest (kindOf k e) p sites) (cheapest-is (kindOf k e) p sites)
+  site-chosen p w = go (cheapest (kindOf k e) p (sitesHolding e)) (cheapest-is (kindOf k e) p (sitesHolding e))
     where
-      go : (o : Option ℕ) → CheapestOf (kindOf k e) p sites o → List·Memᴰ (elim o [ none ↦ 0 | some site ↦ site ]) sites
+      go : (o : Option ℕ) → CheapestOf (kindOf k e) p (sitesHolding e) o → List·Memᴰ (elim o [ none ↦ 0 | some site ↦ site ]) (sitesHolding e)
       go none c = absurd (List·Memᴰ·not-nil (rw c at (some-site e w)))
       go (some a) c = rw (c .stands) (Memᴰ·append-right (c .before) (List·Memᴰ·head refl))
 
-  pub after-drops-site : Within e → List·Memᴰ (afterDrops k e .site) sites
+  pub after-drops-site : Within e → List·Memᴰ (afterDrops k e .site) (sitesHolding e)
   unfolding afterDrops
   after-drops-site w = site-chosen (afterAll (kindOf k e) (localProfile e) (greedySteps k e)) w
 
-  pub plan-site-chosen : Within e → List·Memᴰ (planned k e .site) sites
+  pub plan-site-chosen : Within e → List·Memᴰ (planned k e .site) (sitesHolding e)
   plan-site-chosen w =
-      planned-either (λ (h : Handed Step). List·Memᴰ (h .site) sites) (λ _. after-drops-site w) (site-chosen (localProfile e) w)
+      planned-either (λ (h : Handed Step). List·Memᴰ (h .site) (sitesHolding e)) (λ _. after-drops-site w) (site-chosen (localProfile e) w)
 
   pub plan-site : Within e → holds e (planFor k e .site) ≡ true
   unfolding planFor

@@ -6,7 +6,7 @@ use Prim.Native.Nat.{ℕ, _≤_, _<_}
 use native.Mathlib.Omega.{arith}
 use borrow.Author.Tests.{lt-ltb, le-ltb}
 use lib.ListN.{length, getD, replicate}
-use Rattle.ground.specs.Lists.{filter, below}
+use Rattle.ground.specs.Lists.{below}
 use Rattle.ground.specs.Outcome.{Outcome, nextOf}
 use Rattle.ground.specs.declared.Verdict.the-variants.{Taken, Refused}
 use Rattle.ground.proofs.ListLaws.{filter-from}
@@ -25,8 +25,8 @@ use Rattle.papers.specs.declared.programs.Program.{Program}
 use Rattle.estimates.specs.Profile.{localProfile}
 use Rattle.estimates.specs.Costs.{plainCosts, assemblyAt}
 use Rattle.estimates.specs.Kind.{afterAll, total}
-use Rattle.estimates.specs.Estimate.{kindOf, line, estimated}
-use Rattle.planner.specs.Plan.{siteFor, greedySteps, dropsAt, afterDrops, planned, planFor, noPlan, planOf}
+use Rattle.estimates.specs.Estimate.{kindOf, noLine, estimated}
+use Rattle.planner.specs.Plan.{sitesHolding, siteFor, greedySteps, dropsAt, afterDrops, planned, planFor, noPlan, planOf}
 use Rattle.estimates.specs.Ready.{Ready}
 use Rattle.estimates.specs.Ready.{Bounded}
 use Rattle.planner.specs.Candidates.{shownSteps}
@@ -43,7 +43,7 @@ use Rattle.planner.proofs.DropCodeLaws.{with-steps, with-acceptable}
 
 module _ (k : Costs) (e : Envelope) (local : Profile) (w : Ready k e local) where
   -- a part of the greedy program at a site that holds a relation
-  part-acceptable : (site : ℕ) → List·Memᴰ site (filter (holds e) (below 8)) → (ss : List Step) → Sublistᴰ ss (greedySteps k e)
+  part-acceptable : (site : ℕ) → List·Memᴰ site (sitesHolding e) → (ss : List Step) → Sublistᴰ ss (greedySteps k e)
       → Acceptable e (programWith site ss)
   part-acceptable site m ss h =
       with-acceptable e site ss (filter-from (holds e) (below 8) m .1) (part-few k e (w .within) ss h) (part-legal k e ss h)
@@ -136,7 +136,7 @@ plain-plan e k f x g = g ∙ rw f
 
 -- ---- the envelope is checked first
 
-pub no-plan-is : (m q : ℕ) (z : Line) → z ≡ line noStep 0 0
+pub no-plan-is : (m q : ℕ) (z : Line) → z ≡ noLine
     → _≡_ {A = Plan} (record { verdict = Refused m q; site = 0; count = 0; lines = replicate 156 z; assembly = 0; total = 0; local = 0 }) (noPlan m q)
 unfolding noPlan
 no-plan-is m q z h = rw h

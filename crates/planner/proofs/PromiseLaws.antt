@@ -34,12 +34,12 @@ use Rattle.estimates.specs.Kind.{Kind, afterAll, costs, total}
 use Rattle.estimates.specs.Estimate.{kindOf, linesOf, lineSteps, estimated}
 use Rattle.estimates.specs.declared.costs.Costs.{Costs}
 use Rattle.estimates.proofs.EstimateLaws.{step-tells, lines-steps}
-use Rattle.planner.specs.Choice.{Handed, greedy, cheapest, stepsAt, dropped, drops, dearestFirst, siteAmong, fallback}
-use Rattle.planner.specs.Plan.{siteFor, greedySteps, dropsAt, afterDrops, planned, planFor, planOf}
-use Rattle.planner.specs.Promise.{GreedyProgram, CheapestSite, Turns, Drops, Fallback, Promise, PlanPromise, PlanKept, stepsIn}
+use Rattle.planner.specs.Choice.{Handed, butFor, greedy, cheapest, stepsAt, dropped, drops, dearestFirst, siteAmong, fallback}
+use Rattle.planner.specs.Plan.{sitesHolding, siteFor, greedySteps, dropsAt, afterDrops, planned, planFor, planOf}
+use Rattle.planner.specs.Promise.{GreedyProgram, CheapestSite, Turns, Drops, Fallback, PlannerPromise, PlanPromise, PlanKept, stepsIn}
 use Rattle.ground.proofs.SublistLaws.{part-mem, part-ordered, ordered-behind}
 use Rattle.planner.proofs.ChoiceLaws.{Greedy, greedy-run, greedy-from, greedy-once, greedy-choice, greedy-stops, Cheapest, CheapestOf, cheapest-is, fallback-is, fallback-total}
-use Rattle.planner.proofs.DropLaws.{others, dearest-member, dearest-ordered, dropped-one, drops-part, drops-lower, drops-keeps}
+use Rattle.planner.proofs.DropLaws.{dearest-member, dearest-ordered, dropped-one, drops-part, drops-lower, drops-keeps}
 use Rattle.planner.proofs.PlanLaws.{some-site, plan-lines, plan-legal, plan-once, plan-site, plan-total, plan-below, plan-sum}
 
 module _ {P S : Type 0} (k : Kind P S) (start : P) where
@@ -53,7 +53,7 @@ module _ {P S : Type 0} (k : Kind P S) (start : P) where
     cheapest-site : (site : ℕ) → Cheapest k p sites site → CheapestSite k start sites p site
     cheapest-site site c =
         record {
-          among = rw (c .stands) (Memᴰ·append-right (c .before) (List·Memᴰ·head refl));
+          listed = rw (c .stands) (Memᴰ·append-right (c .before) (List·Memᴰ·head refl));
           cheapest = λ other m. go other (List·Memᴰ·append-cases (c .before) (rw (c .stands) at m));
         }
       where
@@ -85,13 +85,13 @@ module _ {P S : Type 0} (k : Kind P S) (start : P) where
   turns-hold site steps [] kept = refl
   turns-hold site steps (i ∷ order) kept = go (dropped-one k start site steps i order kept) (turns-hold site steps order)
     where
-      go : ((total k start site (steps (others i kept)) < total k start site (steps kept))
-          × (dropped k start site steps (i ∷ order) kept ≡ dropped k start site steps order (others i kept)))
-          ⊎ ((total k start site (steps kept) ≤ total k start site (steps (others i kept)))
+      go : ((total k start site (steps (butFor i kept)) < total k start site (steps kept))
+          × (dropped k start site steps (i ∷ order) kept ≡ dropped k start site steps order (butFor i kept)))
+          ⊎ ((total k start site (steps kept) ≤ total k start site (steps (butFor i kept)))
           × (dropped k start site steps (i ∷ order) kept ≡ dropped k start site steps order kept))
           → ((l : List ℕ) → Turns k start site steps order l (dropped k start site steps order l))
           → Turns k start site steps (i ∷ order) kept (dropped k start site steps (i ∷ order) kept)
-      go (inl (l, e)) ih = inl (l, rw e (ih (others i kept)))
+      go (inl (l, e)) ih = inl (l, rw e (ih (butFor i kept)))
       go (inr (l, e)) ih = inr (l, rw e (ih kept))
 
   drops-hold : (z : S) (here : S → Bool) (site : ℕ) (ss : List S) → Drops k start z here site ss (drops k z start site here ss)
@@ -167,7 +167,7 @@ module _ {P S : Type 0} (k : Kind P S) (start : P) where
           go (inl (e, _)) = rw e (drops-part k z start best (here best) chosen)
           go (inr e) = rw e (Sublistᴰ·nil-sublist chosen)
 
-      pub promise-kept : Promise k start Before allowed sites z here chosen home found (fallback k start home found)
+      pub promise-kept : PlannerPromise k start Before allowed sites z here chosen home found (fallback k start home found)
       promise-kept =
           record {
             greedy = greedy-hold;
@@ -187,7 +187,7 @@ module _ (k : Costs) (e : Envelope) (w : Within e) where
   unfolding siteFor greedySteps dropsAt afterDrops planned
   plan-promise =
       promise-kept (kindOf k e) (localProfile e) step-tells StepBefore (legalSteps e) (legal-ordered e)
-      (filter (holds e) (below 8)) (ordered-filter _<_ (holds e) (below 8) (numbers-ordered 0 8))
+      (sitesHolding e) (ordered-filter _<_ (holds e) (below 8) (numbers-ordered 0 8))
       _ (some-site e w) noStep (λ site (s : Step). isAt e site (s .left .relation))
 
   steps-are : stepsIn (planFor k e) ≡ planned k e .steps

@@ -20,12 +20,16 @@ pub record Handed (S : Type 0) : Type 0 where
   pub steps : List S
   pub site : ℕ
 
+-- without one number
+abbrev pub butFor : ℕ → List ℕ → List ℕ
+butFor i l = filter (λ j. not (eqb i j)) l
+
 -- the numbers of a program's steps, by their costs, dearest first, earlier first on a tie: n of those that are left
 abbrev pub dearestFirst : List ℕ → ℕ → List ℕ → List ℕ
 dearestFirst cs zero left = []
 dearestFirst cs (suc n) left =
     elim (firstOfGreatest (λ i. suc (getD cs i 0)) left)
-    [ none ↦ [] | some i ↦ i ∷ dearestFirst cs n (filter (λ j. not (eqb i j)) left) ]
+    [ none ↦ [] | some i ↦ i ∷ dearestFirst cs n (butFor i left) ]
 
 -- the steps of some numbers
 abbrev pub stepsAt : {S : Type 0} → S → List S → List ℕ → List S
@@ -62,7 +66,7 @@ module _ {P S : Type 0} (k : Kind P S) where
   abbrev pub dropped : P → ℕ → (List ℕ → List S) → List ℕ → List ℕ → List ℕ
   dropped p site steps [] kept = kept
   dropped p site steps (i ∷ order) kept =
-      let fewer = filter (λ j. not (eqb i j)) kept in
+      let fewer = butFor i kept in
       dropped p site steps order (pick (ltb (total k p site (steps fewer)) (total k p site (steps kept))) fewer kept)
 
   -- the program after drops at a site: mine says of a step whether its left relation is there

@@ -15,7 +15,7 @@ use Rattle.paths.specs.declared.steps.Step.{Step}
 use Rattle.estimates.specs.Profile.{localProfile}
 use Rattle.estimates.specs.Costs.{plainCosts, assemblyAt}
 use Rattle.estimates.specs.Kind.{afterAll}
-use Rattle.estimates.specs.Estimate.{kindOf, line, estimated}
+use Rattle.estimates.specs.Estimate.{kindOf, noLine, estimated}
 use Rattle.planner.specs.Choice.{Handed, greedy, siteAmong, drops, fallback}
 use Rattle.estimates.specs.declared.profiles.Profile.{Profile}
 use Rattle.estimates.specs.declared.costs.Costs.{Costs}
@@ -23,9 +23,13 @@ use Rattle.planner.specs.declared.plans.Plan.{Plan}
 
 -- ---- points 2 to 5; point 1, local operations, is localProfile of estimates
 
+-- the sites that hold a relation, lowest first
+abbrev pub sitesHolding : Envelope → List ℕ
+sitesHolding e = filter (holds e) (below 8)
+
 -- the cheapest site that holds a relation
 unfoldable pub siteFor : Costs → Envelope → Profile → ℕ
-siteFor k e p = siteAmong (kindOf k e) p (filter (holds e) (below 8))
+siteFor k e p = siteAmong (kindOf k e) p (sitesHolding e)
 
 unfoldable pub greedySteps : Costs → Envelope → List Step
 greedySteps k e = greedy (kindOf k e) (length (legalSteps e)) (legalSteps e) (localProfile e)
@@ -69,7 +73,7 @@ noPlan n p =
       verdict = Refused n p;
       site = 0;
       count = 0;
-      lines = replicate 156 (line noStep 0 0);
+      lines = replicate 156 noLine;
       assembly = 0;
       total = 0;
       local = 0;

@@ -4,13 +4,12 @@
 -- step if the total at that site, estimated anew, becomes strictly lower .. So the total handed out is never above the
 -- local-only total." And what that says of the plan that is handed out.
 use mathlib.Core.Path.{_≡_}
-use mathlib.Core.Bool.{Bool, true, false, not}
+use mathlib.Core.Bool.{Bool, true, false}
 use mathlib.Core.List.{List, [], _∷_, _++_, List·Memᴰ}
 use mathlib.Core.Logic.{_⊎_, _↔_}
 use Prim.Native.Nat.{ℕ, _+_, _≤_, _<_}
 use lib.ListN.{length, getD, take}
-use lib.Dec.{eqb}
-use Rattle.ground.specs.Lists.{Every, filter, below, sum}
+use Rattle.ground.specs.Lists.{Every, below, sum}
 use Rattle.ground.specs.Order.{Ordered, Once}
 use Rattle.ground.specs.declared.Verdict.the-variants.{Taken}
 use Rattle.contents.specs.Sites.{isAt, holds}
@@ -24,8 +23,8 @@ use Rattle.estimates.specs.Kind.{Kind, afterAll, costs, total}
 use Rattle.estimates.specs.Estimate.{kindOf, linesOf, lineSteps, costsIn}
 use Rattle.estimates.specs.declared.costs.Costs.{Costs}
 use Rattle.estimates.specs.declared.lines.Line.{Line}
-use Rattle.planner.specs.Choice.{Handed, gain, stepsAt}
-use Rattle.planner.specs.Plan.{siteFor, greedySteps, afterDrops, planned}
+use Rattle.planner.specs.Choice.{Handed, butFor, gain, stepsAt}
+use Rattle.planner.specs.Plan.{sitesHolding, siteFor, greedySteps, afterDrops, planned}
 use Rattle.planner.specs.declared.plans.Plan.{Plan}
 
 -- number i costs more than number j, or the same and is earlier
@@ -54,7 +53,7 @@ module _ {P S : Type 0} (k : Kind P S) (start : P) where
 
   -- of some sites the cheapest in a state, the lowest on a tie
   pub record CheapestSite (sites : List ℕ) (p : P) (site : ℕ) : Type 0 where
-    pub among : List·Memᴰ site sites
+    pub listed : List·Memᴰ site sites
     pub cheapest : (other : ℕ) → List·Memᴰ other sites
         → (other ≡ site)
         ⊎ ((k .assembly p site < k .assembly p other) ⊎ ((k .assembly p site ≡ k .assembly p other) × (site < other)))
@@ -63,9 +62,9 @@ module _ {P S : Type 0} (k : Kind P S) (start : P) where
   abbrev pub Turns : ℕ → (List ℕ → List S) → List ℕ → List ℕ → List ℕ → Type 0
   Turns site steps [] kept left = left ≡ kept
   Turns site steps (i ∷ order) kept left =
-      ((total k start site (steps (filter (λ j. not (eqb i j)) kept)) < total k start site (steps kept))
-      × Turns site steps order (filter (λ j. not (eqb i j)) kept) left)
-      ⊎ ((total k start site (steps kept) ≤ total k start site (steps (filter (λ j. not (eqb i j)) kept)))
+      ((total k start site (steps (butFor i kept)) < total k start site (steps kept))
+      × Turns site steps order (butFor i kept) left)
+      ⊎ ((total k start site (steps kept) ≤ total k start site (steps (butFor i kept)))
       × Turns site steps order kept left)
 
   -- what drops at a site leave of a program: of its steps those are looked at whose left relation is there
@@ -89,7 +88,7 @@ module _ {P S : Type 0} (k : Kind P S) (start : P) where
     pub not-below : total k start home [] ≤ totalOf found → out ≡ record { steps = []; site = home }
 
   -- points 2 to 5, and what is handed out
-  pub record Promise (Before : S → S → Type 0) (allowed : List S) (sites : List ℕ) (z : S) (here : ℕ → S → Bool)
+  pub record PlannerPromise (Before : S → S → Type 0) (allowed : List S) (sites : List ℕ) (z : S) (here : ℕ → S → Bool)
       (chosen : List S) (home : ℕ) (found out : Handed S) : Type 0 where
     pub greedy : GreedyProgram Before allowed chosen
     pub site : CheapestSite sites (afterAll k start chosen) (found .site)
@@ -104,7 +103,7 @@ module _ {P S : Type 0} (k : Kind P S) (start : P) where
 
 abbrev pub PlanPromise : Costs → Envelope → Type 0
 PlanPromise k e =
-    Promise (kindOf k e) (localProfile e) StepBefore (legalSteps e) (filter (holds e) (below 8)) noStep
+    PlannerPromise (kindOf k e) (localProfile e) StepBefore (legalSteps e) (sitesHolding e) noStep
     (λ site (s : Step). isAt e site (s .left .relation))
     (greedySteps k e) (siteFor k e (localProfile e)) (afterDrops k e) (planned k e)
 

@@ -47,7 +47,7 @@ fn place_at(k: usize) -> Place
 }
 
 // Step number k of the 4,096 that two such columns make, in the order of ties.
-fn step_at(k: usize) -> Step
+fn candidate_at(k: usize) -> Step
     requires { ⌜ k < 4096 ⌝ }
     ensures { λ r. ⌜ r ≡ Steps·step (place (k / 64 / 8) (k / 64 % 8)) (place (k % 64 / 8) (k % 64 % 8)) ⌝ }
 {
@@ -66,7 +66,7 @@ pub(crate) fn legal_steps(envelope: Envelope) -> Steps
     let mut count: u8 = 0;
     let mut k: usize = 0;
     while k < 4096 {
-        let step = step_at(k);
+        let step = candidate_at(k);
         if paths::steps::legal_by(envelope, labels, step) {
             let slot = count as usize;
             all[slot] = step;

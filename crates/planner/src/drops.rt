@@ -35,7 +35,7 @@ fn dropped(
     let mut i: usize = 0;
     while i < n as usize {
         let before = kept.all;
-        let fewer = crate::numbers::without(before, kept.count, order[i]);
+        let fewer = crate::numbers::but_for(before, kept.count, order[i]);
         let left = fewer.all;
         let shorter = crate::numbers::steps_at(
             program.site,

@@ -6,7 +6,6 @@ use ends::ends::End;
 use entries::clauses::Clause;
 use entries::clauses::ClauseKind;
 use entries::places::Place;
-use ground::Verdict;
 use papers::programs::Program;
 use paths::steps::Step;
 

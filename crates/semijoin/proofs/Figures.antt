@@ -4,7 +4,7 @@ use mathlib.Core.Path.{refl}
 use mathlib.Core.List.{List, [], _∷_}
 use Prim.Native.Nat.{ℕ}
 use Rattle.ground.specs.Figures.{Figure, figure, Hold}
-use Rattle.ground.specs.Lists.{each, padded, numbersFrom}
+use Rattle.ground.specs.Lists.{padded, numbersFrom}
 use Rattle.ground.specs.Outcome.{numbered, nextOf, valueOf, leaves}
 use Rattle.ground.specs.Bytes.{littleEnd, bytesOf}
 use Rattle.ground.specs.Searching.{firstFrom}
@@ -27,7 +27,7 @@ use Rattle.paths.specs.Implied.{constantsOf, selectionsBy, equalitiesBy}
 use Rattle.papers.specs.Programs.{stepsOf, programWith, stepAt, endedProgram, stepsThen, programBy, readProgram, programBytes, checkProgram}
 use Rattle.papers.specs.Checks.{papersOf}
 use Rattle.papers.proofs.ExamplePapers.{couponWeigh}
-use Rattle.paths.specs.Meaning.{Row, rowsIn, tablesIn, tablesOf, meetsAll, answerOn, answerRows, answerWords}
+use Rattle.paths.specs.Meaning.{rowsIn, tablesIn, tablesOf, meetsAll, answerOn, answerRows, wordsOfRows, answerWords}
 use Rattle.tables.specs.Offsets.{countIn, wordsBefore, rowsBefore, firstWord, rowsAt, marksAt, rowsOver, marksOver}
 use Rattle.tables.specs.Shape.{shaped}
 use Rattle.tables.specs.Rows.{keptOf, keptRows}
@@ -64,9 +64,6 @@ allKept = 1 ∷ 1 ∷ 1 ∷ 1 ∷ 1 ∷ 1 ∷ 1 ∷ 9 ∷ []
 abbrev bytes : List ℕ
 bytes = 0 ∷ 1 ∷ 2 ∷ 3 ∷ 4 ∷ 5 ∷ 6 ∷ 9 ∷ []
 
-abbrev words : List Row → List ℕ
-words rows = each (λ (row : Row). row) rows
-
 abbrev pub figures : List Figure
 figures =
     -- joined on number, and on date
@@ -76,7 +73,7 @@ figures =
     ∷ figure (risingValues onDate couponWeigh allKept (place 1 1)) (20 ∷ 22 ∷ [])
     ∷ figure (reducedBy onDate couponWeigh (20 ∷ 22 ∷ []) (place 0 1) allKept) (1 ∷ 1 ∷ 0 ∷ 1 ∷ 1 ∷ 1 ∷ 1 ∷ 9 ∷ [])
     ∷ figure (stepped onDate couponWeigh (step (place 0 1) (place 1 1)) allKept) (1 ∷ 1 ∷ 0 ∷ 1 ∷ 1 ∷ 1 ∷ 1 ∷ 9 ∷ [])
-    ∷ figure (words (keptRows onDate couponWeigh (stepped onDate couponWeigh (step (place 0 1) (place 1 1)) allKept) 0)) (11 ∷ 20 ∷ 12 ∷ 20 ∷ [])
+    ∷ figure (wordsOfRows (keptRows onDate couponWeigh (stepped onDate couponWeigh (step (place 0 1) (place 1 1)) allKept) 0)) (11 ∷ 20 ∷ 12 ∷ 20 ∷ [])
     -- WEIGH reduced by COUPON on number keeps its first three rows: equal rows both survive
     ∷ figure (stepped onNumber couponWeigh (step (place 1 0) (place 0 0)) allKept) (1 ∷ 1 ∷ 1 ∷ 1 ∷ 1 ∷ 1 ∷ 0 ∷ 9 ∷ [])
     -- both envelopes are taken, each of 72 bytes; the whole run, with its refusals, of that one step

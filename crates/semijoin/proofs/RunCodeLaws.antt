@@ -52,7 +52,7 @@ use Rattle.semijoin.proofs.CallCodeLaws.{after-refused, after-taken}
 
 module _ (e : Envelope) (words marks : List ℕ) (right : Place) (size : ℕ) (h : 4096 ≤ size) (t : shaped e words ≡ true)
     (room : rowCount e words ≤ length marks) (gathered : Written)
-    (f : gathered ≡ writtenOf (valuesOutcome e words marks right 0 (replicate size 0))) (p : isPlace e right ≡ true) where
+    (f : gathered ≡ writtenOf (valuesOutcome e words marks right 0 (length {A = ℕ} (replicate size 0)))) (p : isPlace e right ≡ true) where
   abbrev rising : List ℕ
   rising = risingValues e words marks right
 
@@ -68,9 +68,9 @@ module _ (e : Envelope) (words marks : List ℕ) (right : Place) (size : ℕ) (h
       let long : length fresh ≡ size = length-replicate size zero in
       omega (arith, few)
 
-  writes : (w.Length (length rising) ≡ writtenOf (valuesOutcome e words marks right 0 fresh))
-      × (sets fresh 0 rising ≡ writtenIn fresh (valuesOutcome e words marks right 0 fresh))
-  writes = writes-good 0 fresh _ rising 0 (length rising) _ (values-taken e right words marks 0 fresh t room p fits) refl refl
+  writes : (w.Length (length rising) ≡ writtenOf (valuesOutcome e words marks right 0 (length fresh)))
+      × (sets fresh 0 rising ≡ writtenIn fresh (valuesOutcome e words marks right 0 (length fresh)))
+  writes = writes-good 0 fresh _ rising 0 (length rising) _ (values-taken e right words marks 0 (length fresh) t room p fits) refl refl
 
   is-length : gathered ≡ w.Length (length rising)
   is-length = f ∙ sym (writes .0)
@@ -78,7 +78,7 @@ module _ (e : Envelope) (words marks : List ℕ) (right : Place) (size : ℕ) (h
   pub step-refused : (m q : ℕ) → gathered ≡ w.Refused m q → ⊥
   step-refused m q k = let z : _≡_ {A = ℕ} 0 1 = cc is-length in never z
 
-  module _ (values : List ℕ) (b : values ≡ writtenIn (replicate size 0) (valuesOutcome e words marks right 0 (replicate size 0)))
+  module _ (values : List ℕ) (b : values ≡ writtenIn (replicate size 0) (valuesOutcome e words marks right 0 (length {A = ℕ} (replicate size 0))))
       (n : ℕ) (k : gathered ≡ w.Length n) where
     count : n ≡ length rising
     count = cc is-length

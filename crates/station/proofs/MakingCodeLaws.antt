@@ -103,18 +103,18 @@ front-last l a b c vs =
 
 module _ (e : Envelope) (words : List ℕ) (shape : shaped e words ≡ true) (marks : List ℕ) (room : rowCount e words ≤ length marks) (a : Place)
     (here : isPlace e a ≡ true) (start : ℕ) (out : List ℕ) (y : Written) (after : List ℕ)
-    (f : Writes start out (valuesOutcome e words marks a start out) y after) where
+    (f : Writes start out (valuesOutcome e words marks a start (length out)) y after) where
   abbrev listed : List ℕ
   listed = risingValues e words marks a
 
   abbrev gathering : Outcome (List ℕ)
-  gathering = valuesOutcome e words marks a start out
+  gathering = valuesOutcome e words marks a start (length out)
 
   when-fit : start + length listed ≤ length out → Writes start out gathering (Length (length listed)) (sets out start listed)
-  when-fit l = writes-good start out gathering listed 0 (length listed) _ (values-taken e a words marks start out shape room here l) refl refl
+  when-fit l = writes-good start out gathering listed 0 (length listed) _ (values-taken e a words marks start (length out) shape room here l) refl refl
 
   when-short : length out < start + length listed → Writes start out gathering (Refused tooShort 0) out
-  when-short l = writes-bad start out gathering tooShort 0 (values-narrow e a words marks start out shape room here l)
+  when-short l = writes-bad start out gathering tooShort 0 (values-narrow e a words marks start (length out) shape room here l)
 
   values-short : (m p : ℕ) → y ≡ Refused m p → (length out < start + length listed) × (m ≡ tooShort) × (p ≡ 0) × (after ≡ out)
   values-short m p h =
@@ -169,8 +169,8 @@ module _ (q : Papers) (x : End) (words marks : List ℕ) (n : ℕ) (out : List �
         ltb-true _ _ (and-left _ _ (sym f ∙ sending-ours (q .program) (x .applied) ours (s .right .relation) n w k h)) in
         rw e (step-legal q (u .papers) n t .right)
 
-    module _ (y : Written) (after : List ℕ) (a : y ≡ writtenOf (valuesOutcome (q .envelope) words marks (s .right) 3 out))
-        (b : after ≡ writtenFrom 3 out (valuesOutcome (q .envelope) words marks (s .right) 3 out)) where
+    module _ (y : Written) (after : List ℕ) (a : y ≡ writtenOf (valuesOutcome (q .envelope) words marks (s .right) 3 (length out)))
+        (b : after ≡ writtenFrom 3 out (valuesOutcome (q .envelope) words marks (s .right) 3 (length out))) where
       pub values-none : (m p : ℕ) → y ≡ Refused m p → Writes 0 out outcome (Refused m p) after
       unfolding valueMessage
       values-none m p t =

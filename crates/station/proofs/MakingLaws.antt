@@ -1,6 +1,6 @@
 -- What making a message says: where it is taken, its facts, and where these hold it is; where it is refused, by which
 -- number. That nothing changed then is `leaves-refused` (ground).
-use mathlib.Core.Path.{_≡_, ap}
+use mathlib.Core.Path.{_≡_}
 use mathlib.Core.Bool.{Bool, true, _&&_}
 use mathlib.Core.List.{List, [], _∷_, List·Memᴰ, List·Memᴰ·tail, Memᴰ·append-left}
 use mathlib.Core.Logic.{_⊎_, inl, inr}
@@ -98,18 +98,11 @@ module _ (x : End) (words marks : List ℕ) (n room : ℕ) where
   pub values-number : (k u : ℕ) → makeValuesOf x words marks n room ≡ bad k u
       → ToldFirst x words (length marks) k u ⊎ List·Memᴰ k (notOurs ∷ waiting ∷ tooShort ∷ [])
   unfolding makeValuesOf valuesWith
-  values-number k u h = go (call-number x words (length marks) k u (λ q. valuesWith q x words marks n room) h)
-    where
-      go : ToldFirst x words (length marks) k u
-          ⊎ ((q : Papers) × (at : ℕ) × (usable x words (length marks) ≡ good q at) × (valuesWith q x words marks n room ≡ bad k u))
-          → ToldFirst x words (length marks) k u ⊎ List·Memᴰ k (notOurs ∷ waiting ∷ tooShort ∷ [])
-      go (inl t) = inl t
-      go (inr (q, at, _, e)) =
-          inr
-          (sent-number (q .program) (x .applied)
-          (ltb n (stepCount (q .program)) && isAt (q .envelope) (x .site) (stepOf (q .program) n .right .relation))
-          (stepOf (q .program) n .right .relation) n room
-          (valueMessage (x .run) n (risingValues (q .envelope) words marks (stepOf (q .program) n .right))) k u e)
+  values-number k u =
+      call-number x words (length marks) k u (λ q. valuesWith q x words marks n room) λ q.
+      let b = stepOf (q .program) n .right in
+      sent-number (q .program) (x .applied) (ltb n (stepCount (q .program)) && isAt (q .envelope) (x .site) (b .relation)) (b .relation) n room
+      (valueMessage (x .run) n (risingValues (q .envelope) words marks b)) k u
 
 -- ---- a row message
 
@@ -146,16 +139,10 @@ module _ (x : End) (words marks : List ℕ) (r room : ℕ) where
   pub rows-number : (k u : ℕ) → makeRowsOf x words marks r room ≡ bad k u
       → ToldFirst x words (length marks) k u ⊎ List·Memᴰ k (notOurs ∷ waiting ∷ tooShort ∷ [])
   unfolding makeRowsOf rowsWith
-  rows-number k u h = go (call-number x words (length marks) k u (λ q. rowsWith q x words marks r room) h)
-    where
-      go : ToldFirst x words (length marks) k u
-          ⊎ ((q : Papers) × (at : ℕ) × (usable x words (length marks) ≡ good q at) × (rowsWith q x words marks r room ≡ bad k u))
-          → ToldFirst x words (length marks) k u ⊎ List·Memᴰ k (notOurs ∷ waiting ∷ tooShort ∷ [])
-      go (inl t) = inl t
-      go (inr (q, at, _, e)) =
-          inr
-          (sent-number (q .program) (x .applied) (isAt (q .envelope) (x .site) r) r (stepCount (q .program)) room
-          (rowMessage (x .run) r (sentRows (q .envelope) words marks r)) k u e)
+  rows-number k u =
+      call-number x words (length marks) k u (λ q. rowsWith q x words marks r room) λ q.
+      sent-number (q .program) (x .applied) (isAt (q .envelope) (x .site) r) r (stepCount (q .program)) room
+      (rowMessage (x .run) r (sentRows (q .envelope) words marks r)) k u
 
 -- ---- at a sound end, with tables of the shape and marks enough, it is by the papers as they stand
 

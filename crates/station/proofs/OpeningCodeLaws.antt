@@ -38,29 +38,7 @@ use Rattle.station.specs.declared.opening.Opened.{Opened}
 -- ---- which relations are here
 
 module _ (e : Envelope) (site : ℕ) where
-  -- the first i places are filled
-  pub record Here (i : ℕ) (here : List Bool) : Type 0 where
-    pub filled : Collecting 8 false (map (isAt e site) (below i)) i here
-
-  pub here-start : Here 0 (replicate 8 false)
-  unfolding numbersFrom
-  here-start = record { filled = collecting-start 8 false }
-
-  module _ (i : ℕ) (here : List Bool) (c : Here i here) where
-    pub here-more : i < 8 → (b : Bool) → b ≡ isAt e site i → Here (i + 1) (set here i b)
-    here-more h b f =
-        record {
-          filled = rw (map-below (isAt e site) i, f) (collecting-push 8 false (map (isAt e site) (below i)) i here (c .filled) (isAt e site i) h);
-        }
-
-    pub here-done : 8 ≤ i → here ≡ hereAt e site
-    here-done h =
-        let s : i ≡ 8 = omega (arith, c .filled .counted, c .filled .fits) in
-        c .filled .array
-        ∙ padded-full 8 false (map (isAt e site) (below i)) (omega (arith, c .filled .counted))
-        ∙ ap (λ n. map (isAt e site) (below n)) s
-
-  -- so as a function they are those at the site
+  -- as a function they are those at the site
   pub here-at : (here : List Bool) → here ≡ hereAt e site → (λ r. getD here r false) ≡ isAt e site
   here-at here f =
       fun-ext λ r.
@@ -101,20 +79,6 @@ module _ (e : Envelope) (within : Within e) (words : List ℕ) (shape : shaped e
 pub opened-none : (m p : ℕ) (x : End) → x ≡ noEnd → record { verdict = Refused m p; end = x } ≡ shownOpened (bad m p)
 unfolding shownOpened verdictOf leaves
 opened-none m p x e = rw e
-
-pub start-is : (q : Papers) (site run : ℕ)
-    → record {
-      envelope = q .envelope;
-      program = q .program;
-      site = site;
-      run = run;
-      applied = replicate 8 0;
-      arrived = replicate 8 false;
-      used = 0;
-    }
-    ≡ startOf q site run
-unfolding startOf
-start-is q site run = refl
 
 -- a refusal, and an opening
 module _ (marks : List ℕ) (o : Outcome Marked) where

@@ -1,7 +1,7 @@
 -- What an opening says: where it is taken, its facts; where it is refused, by which number, and that nothing changed. An opened
 -- end is sound.
 use mathlib.Core.Path.{_≡_, refl, ap, sym}
-use mathlib.Core.Bool.{true, not}
+use mathlib.Core.Bool.{true}
 use mathlib.Core.List.{List, [], _∷_, List·Memᴰ}
 use mathlib.Core.Logic.{_⊎_, inl, inr}
 use Prim.Native.Nat.{ℕ, _≤_}
@@ -21,7 +21,7 @@ use Rattle.papers.specs.declared.programs.Program.{Program}
 use Rattle.papers.specs.declared.checks.Papers.{Papers}
 use Rattle.papers.proofs.CheckLaws.{papers-sound}
 use Rattle.tables.specs.Offsets.{rowCount}
-use Rattle.tables.specs.Shape.{shaped}
+use Rattle.tables.specs.Shape.{shaped, shapeTest, markCountTest}
 use Rattle.semijoin.specs.Local.{openedIn}
 use Rattle.ends.specs.Ends.{Marked, startOf, Sound}
 use Rattle.station.specs.Opening.{openWith, openOf, openedMarks}
@@ -41,10 +41,7 @@ pub record OpenedBy (q : Papers) (site run : ℕ) (words marks : List ℕ) (x : 
 module _ (site run : ℕ) (words marks : List ℕ) where
   abbrev openTests : Papers → List Test
   openTests q =
-      test (not (shaped (q .envelope) words)) wrongShape 0
-      ∷ test (ltb 7 site) beyondLimit 0
-      ∷ test (ltb (length marks) (rowCount (q .envelope) words)) tooShort 0
-      ∷ []
+      shapeTest (q .envelope) words ∷ test (ltb 7 site) beyondLimit 0 ∷ markCountTest (q .envelope) words (length marks) ∷ []
 
   abbrev effect : Papers → Marked
   effect q = record { end = startOf q site run; marks = openedIn (q .envelope) words (isAt (q .envelope) site) marks }

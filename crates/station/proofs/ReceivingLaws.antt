@@ -24,7 +24,8 @@ use Rattle.semijoin.specs.Marks.{reducedBy}
 use Rattle.tables.specs.Rows.{keptAt}
 use Rattle.semijoin.proofs.PromiseLaws.{promise}
 use Rattle.ends.specs.Reducing.{stepCount, stepOf, stepsBefore}
-use Rattle.ends.specs.Ends.{Marked, appliedOf, hasArrived, usable, Usable}
+use Rattle.tables.specs.Values.{roomTest}
+use Rattle.ends.specs.Ends.{Marked, appliedOf, hasArrived, assemblyTest, usable, Usable}
 use Rattle.ends.specs.Messages.{frontLength, runOf, secondOf, bodyOf, aboutOf, counted, soundValues}
 use Rattle.station.specs.Receiving.{Stored, Held, withApplied, withArrived, valuesTaken, rowsTaken, taken, receiveWith, receiveOf, refusedBy, shownReceived, receivedMarks, receivedStore}
 use Rattle.ends.specs.declared.messages.About.{About}
@@ -106,10 +107,10 @@ pub record RowsTaken (q : Papers) (x : End) (store m : List ℕ) (r : ℕ) (y : 
 module _ (q : Papers) (x : End) (store m : List ℕ) (r : ℕ) where
   abbrev pub rowsTests : List Test
   rowsTests =
-      test (not (eqb (x .site) (q .program .site))) notOurs 0
+      assemblyTest q x
       ∷ test (not (counted (length (keptColumns (q .envelope) r)) m)) notSound 0
       ∷ test (hasArrived x r) alreadyTaken 0
-      ∷ test (ltb (length store) (x .used + length m)) tooShort 0
+      ∷ roomTest (x .used) (length store) m
       ∷ []
 
   abbrev pub rowsEffect : Stored
@@ -243,13 +244,8 @@ module _ (x : End) (words marks store m : List ℕ) where
   pub received-number : (k u : ℕ) → receiveOf x words marks store m ≡ bad k u
       → ToldFirst x words (length marks) k u ⊎ (List·Memᴰ k lastNumbers × (u ≡ 0))
   unfolding receiveOf
-  received-number k u h = go (call-number x words (length marks) k u (λ q. receiveWith q x words marks store m) h)
-    where
-      go : ToldFirst x words (length marks) k u
-          ⊎ ((q : Papers) × (at : ℕ) × (usable x words (length marks) ≡ good q at) × (receiveWith q x words marks store m ≡ bad k u))
-          → ToldFirst x words (length marks) k u ⊎ (List·Memᴰ k lastNumbers × (u ≡ 0))
-      go (inl t) = inl t
-      go (inr (q, at, _, e)) = inr (with-number q x words marks store m k u e)
+  received-number k u =
+      call-number x words (length marks) k u (λ q. receiveWith q x words marks store m) (λ q. with-number q x words marks store m k u)
 
 -- ---- a refusal leaves the end, the marks and the store, and is answered
 

@@ -48,20 +48,20 @@ module _ (e : Envelope) (whole : List ℕ) where
   mostIf arrived r = pick (arrived r) (mostOf r) 0
 
   -- the most words that they can have together, of the first n relations
-  abbrev pub heldBy : (ℕ → Bool) → ℕ → ℕ
-  heldBy arrived n = sum (map (mostIf arrived) (below n))
+  abbrev pub mostHeld : (ℕ → Bool) → ℕ → ℕ
+  mostHeld arrived n = sum (map (mostIf arrived) (below n))
 
-  held-more : (arrived : ℕ → Bool) (n : ℕ) → heldBy arrived (suc n) ≡ heldBy arrived n + mostIf arrived n
+  held-more : (arrived : ℕ → Bool) (n : ℕ) → mostHeld arrived (suc n) ≡ mostHeld arrived n + mostIf arrived n
   held-more arrived n = rw (add-one n) at (sum-below (mostIf arrived) n)
 
   -- all of them: three words for each relation, and the words of the tables but for the counts
-  all-held : (n : ℕ) → heldBy (λ r. true) n + relationCount e ≡ firstWord e whole n + 3 * n
+  all-held : (n : ℕ) → mostHeld (λ r. true) n + relationCount e ≡ firstWord e whole n + 3 * n
   all-held zero = omega (arith, sum-none (mostIf (λ r. true)), first-none e whole)
   all-held (suc n) =
       let more : firstWord e whole (suc n) ≡ firstWord e whole n + countIn e whole n * columnsIn e n = rw (add-one n) at (first-more e whole n) in
       omega (arith, held-more (λ r. true) n, all-held n)
 
-  pub held-fits : shaped e whole ≡ true → heldBy (λ r. true) (relationCount e) ≤ 16400
+  pub held-fits : shaped e whole ≡ true → mostHeld (λ r. true) (relationCount e) ≤ 16400
   held-fits shape =
       let s = shaped-shape e whole shape in
       omega (arith, all-held (relationCount e), s .whole, s .within)
@@ -76,25 +76,25 @@ module _ (e : Envelope) (whole : List ℕ) where
         go true false k = absurd (false≢true (k refl))
         go false b k = omega arith
 
-    pub held-fewer : (n : ℕ) → heldBy arrived n ≤ heldBy more n
+    pub held-fewer : (n : ℕ) → mostHeld arrived n ≤ mostHeld more n
     held-fewer zero = omega (arith, sum-none (mostIf arrived), sum-none (mostIf more))
     held-fewer (suc n) = omega (arith, held-more arrived n, held-more more n, one-fewer n, held-fewer n)
 
   -- one message more has its words more
   module _ (arrived after : ℕ → Bool) (r : ℕ) (before : arrived r ≡ false) (now : after r ≡ true)
       (others : (i : ℕ) → (i ≡ r → ⊥) → after i ≡ arrived i) where
-    same-below : (n : ℕ) → n ≤ r → heldBy after n ≡ heldBy arrived n
+    same-below : (n : ℕ) → n ≤ r → mostHeld after n ≡ mostHeld arrived n
     same-below zero k = sum-none (mostIf after) ∙ sym (sum-none (mostIf arrived))
     same-below (suc n) k =
         let other : after n ≡ arrived n = others n (λ e. omega arith) in
         let same : mostIf after n ≡ mostIf arrived n = rw other in
         omega (arith, held-more after n, held-more arrived n, same-below n (omega arith))
 
-    pub held-one : (n : ℕ) → r < n → heldBy after n ≡ heldBy arrived n + mostOf r
+    pub held-one : (n : ℕ) → r < n → mostHeld after n ≡ mostHeld arrived n + mostOf r
     held-one zero k = absurd (not-suc-le-zero k)
     held-one (suc n) k = go (ℕ-discrete n r) (held-one n)
       where
-        go : Dec (n ≡ r) → (r < n → heldBy after n ≡ heldBy arrived n + mostOf r) → heldBy after (suc n) ≡ heldBy arrived (suc n) + mostOf r
+        go : Dec (n ≡ r) → (r < n → mostHeld after n ≡ mostHeld arrived n + mostOf r) → mostHeld after (suc n) ≡ mostHeld arrived (suc n) + mostOf r
         go (yes e) ih =
             let a : mostIf after n ≡ mostOf r = rw (e, now) in
             let b : mostIf arrived n ≡ 0 = rw (e, before) in
@@ -106,7 +106,7 @@ module _ (e : Envelope) (whole : List ℕ) where
 
 -- ---- an end's store: what is used is no more than the messages that arrived can have
 
-module _ (e : Envelope) (whole : List ℕ) (x : End) (within : x .used ≤ heldBy e whole (hasArrived x) (relationCount e)) (m : List ℕ) (r : ℕ)
+module _ (e : Envelope) (whole : List ℕ) (x : End) (within : x .used ≤ mostHeld e whole (hasArrived x) (relationCount e)) (m : List ℕ) (r : ℕ)
     (exists : r < relationCount e) (first : hasArrived x r ≡ false) (most : length m ≤ mostOf e whole r) (eight : length (x .arrived) ≡ 8) where
   abbrev after : End
   after = withArrived x r (length m)
@@ -119,11 +119,11 @@ module _ (e : Envelope) (whole : List ℕ) (x : End) (within : x .used ≤ heldB
   unfolding withArrived
   others i d = getD-set-other (x .arrived) r i true false d
 
-  one : heldBy e whole (hasArrived after) (relationCount e) ≡ heldBy e whole (hasArrived x) (relationCount e) + mostOf e whole r
+  one : mostHeld e whole (hasArrived after) (relationCount e) ≡ mostHeld e whole (hasArrived x) (relationCount e) + mostOf e whole r
   one = held-one e whole (hasArrived x) (hasArrived after) r first now others (relationCount e) exists
 
   -- so it is after one more
-  pub held-within : after .used ≤ heldBy e whole (hasArrived after) (relationCount e)
+  pub held-within : after .used ≤ mostHeld e whole (hasArrived after) (relationCount e)
   unfolding withArrived
   held-within = omega (arith, one)
 

@@ -21,7 +21,7 @@ use Rattle.tables.specs.declared.offsets.Extent.{Extent}
 use Rattle.tables.proofs.RowLaws.{kept-are}
 use Rattle.ends.specs.Messages.{rowMessage}
 use Rattle.station.specs.Making.{sentRows}
-use Rattle.ends.proofs.CountingLaws.{Counting, counting-yes, counting-no, counting-less}
+use Rattle.ground.proofs.CountingLaws.{Counting, counting-yes, counting-no, counting-less}
 
 -- ---- counting the kept rows
 

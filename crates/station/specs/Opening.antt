@@ -1,7 +1,7 @@
 -- "Opening sets 1 where an own row passes the local operations and 0 elsewhere." "Bytes past the last row stay." "Opening: 10,
 -- 4 (site above 7), 11."
 use Prim.Native.Nat.{ℕ}
-use mathlib.Core.Bool.{Bool, not}
+use mathlib.Core.Bool.{Bool}
 use mathlib.Core.List.{List, [], _∷_, map}
 use lib.ListN.{length}
 use lib.Dec.{ltb}
@@ -9,14 +9,13 @@ use Rattle.ground.specs.Lists.{below}
 use Rattle.ground.specs.Outcome.{Outcome, next, verdictOf, leaves}
 use Rattle.ground.specs.Outcome.Outcome.{good}
 use Rattle.ground.specs.Refusing.{test, judged}
-use Rattle.fields.specs.Refusals.{beyondLimit, wrongShape, tooShort}
+use Rattle.fields.specs.Refusals.{beyondLimit}
 use Rattle.contents.specs.Sites.{isAt}
 use Rattle.contents.specs.declared.envelope.Envelope.{Envelope}
 use Rattle.papers.specs.Checks.{papersOf}
 use Rattle.papers.specs.declared.programs.Program.{Program}
 use Rattle.papers.specs.declared.checks.Papers.{Papers}
-use Rattle.tables.specs.Offsets.{rowCount}
-use Rattle.tables.specs.Shape.{shaped}
+use Rattle.tables.specs.Shape.{shapeTest, markCountTest}
 use Rattle.semijoin.specs.Local.{openedIn}
 use Rattle.ends.specs.Ends.{Marked, startOf, noEnd}
 use Rattle.station.specs.declared.opening.Opened.{Opened}
@@ -30,10 +29,7 @@ unfoldable pub openWith : Papers → ℕ → ℕ → List ℕ → List ℕ → O
 openWith q site run words marks =
     let e = q .envelope in
     judged
-    (test (not (shaped e words)) wrongShape 0
-    ∷ test (ltb 7 site) beyondLimit 0
-    ∷ test (ltb (length marks) (rowCount e words)) tooShort 0
-    ∷ [])
+    (shapeTest e words ∷ test (ltb 7 site) beyondLimit 0 ∷ markCountTest e words (length marks) ∷ [])
     (good (record { end = startOf q site run; marks = openedIn e words (isAt e site) marks }) 0)
 
 unfoldable pub openOf : Envelope → Program → ℕ → ℕ → List ℕ → List ℕ → Outcome Marked

@@ -11,15 +11,16 @@ use Rattle.ground.specs.Outcome.{Outcome, next, verdictOf, leaves}
 use Rattle.ground.specs.Outcome.Outcome.{good, bad}
 use Rattle.ground.specs.declared.Verdict.the-variants.{Refused}
 use Rattle.ground.specs.Refusing.{test, judged}
-use Rattle.fields.specs.Refusals.{endsInside, tooShort, otherRun, notOurs, notSound, alreadyTaken, stepMissing}
+use Rattle.fields.specs.Refusals.{endsInside, otherRun, notOurs, notSound, alreadyTaken, stepMissing}
 use Rattle.contents.specs.Parts.{relationCount}
 use Rattle.contents.specs.Sites.{isAt}
 use Rattle.contents.specs.Kept.{keptColumns}
 use Rattle.paths.specs.declared.steps.Step.{Step}
 use Rattle.papers.specs.declared.checks.Papers.{Papers}
+use Rattle.tables.specs.Values.{roomTest}
 use Rattle.semijoin.specs.Marks.{reducedBy}
 use Rattle.ends.specs.Reducing.{stepCount, stepOf, stepsBefore}
-use Rattle.ends.specs.Ends.{Marked, appliedOf, hasArrived, usable}
+use Rattle.ends.specs.Ends.{Marked, appliedOf, hasArrived, assemblyTest, usable}
 use Rattle.ends.specs.Messages.{frontLength, runOf, secondOf, bodyOf, aboutOf, counted, soundValues}
 use Rattle.ends.specs.declared.reducing.Missing.{Missing}
 use Rattle.ends.specs.declared.reducing.Missing.the-variants.{First, None}
@@ -92,10 +93,10 @@ valuesTaken q x words marks m n =
 unfoldable pub rowsTaken : Papers → End → List ℕ → List ℕ → ℕ → Outcome Stored
 rowsTaken q x store m r =
     judged
-    (test (not (eqb (x .site) (q .program .site))) notOurs 0
+    (assemblyTest q x
     ∷ test (not (counted (length (keptColumns (q .envelope) r)) m)) notSound 0
     ∷ test (hasArrived x r) alreadyTaken 0
-    ∷ test (ltb (length store) (x .used + length m)) tooShort 0
+    ∷ roomTest (x .used) (length store) m
     ∷ [])
     (good (record { end = withArrived x r (length m); store = sets store (x .used) m }) 0)
 

@@ -8,7 +8,6 @@ use papers::programs::Program;
 ghost use mathlib.Core.Path.{_≡_};
 ghost use Rattle.ground.specs.Outcome.Outcome.{bad};
 ghost use Rattle.papers.specs.Checks.{GoodPapers};
-ghost use Rattle.ends.specs.Ends.{startOf};
 ghost use Rattle.station.specs.Opening.{openWith, openOf, shownOpened, openedMarks, hereAt};
 
 // The end, or the refusal with the empty end beside it.
@@ -24,24 +23,6 @@ fn refused_opening(number: u8, position: usize) -> Opened
     Opened {
         verdict: Verdict::Refused { number, position },
         end: end,
-    }
-}
-
-fn start_of(papers: Papers, site: u32, run: u32) -> End
-    ensures { λ r. ⌜ r ≡ startOf papers site run ⌝ }
-{
-    let envelope = papers.envelope;
-    let program = papers.program;
-    let applied = [0u32; 8];
-    let arrived = [false; 8];
-    End {
-        envelope: envelope,
-        program: program,
-        site: site,
-        run: run,
-        applied: applied,
-        arrived: arrived,
-        used: 0,
     }
 }
 
@@ -76,7 +57,7 @@ fn open_with(papers: Papers, site: u32, run: u32, tables: &[u32], marks: &mut [u
     match verdict {
         Verdict::Refused { number, position } => refused_opening(number, position),
         Verdict::Taken => {
-            let end = start_of(papers, site, run);
+            let end = ends::ends::start_of(papers, site, run);
             Opened {
                 verdict: Verdict::Taken,
                 end: end,

@@ -38,34 +38,34 @@ module _ {A : Type 0} (e : Envelope) (words : List ℕ) (n : ℕ) (ts : List Tes
 
 -- ---- the values of a column
 
-module _ (e : Envelope) (a : Place) (words marks : List ℕ) (start : ℕ) (out : List ℕ) where
+module _ (e : Envelope) (a : Place) (words marks : List ℕ) (start room : ℕ) where
   abbrev found : List ℕ
   found = risingValues e words marks a
 
   abbrev valuesTests : List Test
-  valuesTests = test (not (isPlace e a)) notOurs 0 ∷ roomTest start (length out) (risingValues e words marks a) ∷ []
+  valuesTests = test (not (isPlace e a)) notOurs 0 ∷ roomTest start room (risingValues e words marks a) ∷ []
 
   -- it refuses by 10, 11, 14, at 0
-  pub values-number : (n p : ℕ) → valuesOutcome e words marks a start out ≡ bad n p
+  pub values-number : (n p : ℕ) → valuesOutcome e words marks a start room ≡ bad n p
       → List·Memᴰ n (wrongShape ∷ tooShort ∷ notOurs ∷ tooShort ∷ []) × (p ≡ 0)
   unfolding valuesOutcome
   values-number n p h =
-      refusal-listed (columnTests e a words (length marks) ++ roomTest start (length out) found ∷ []) found 0 n p (refl, (refl, (refl, (refl, tt)))) h
+      refusal-listed (columnTests e a words (length marks) ++ roomTest start room found ∷ []) found 0 n p (refl, (refl, (refl, (refl, tt)))) h
 
   module _ (s : shaped e words ≡ true) where
     module _ (h : rowCount e words ≤ length marks) where
       module _ (c : isPlace e a ≡ true) where
-        pub values-narrow : length out < start + length (risingValues e words marks a)
-            → valuesOutcome e words marks a start out ≡ bad tooShort 0
+        pub values-narrow : room < start + length (risingValues e words marks a)
+            → valuesOutcome e words marks a start room ≡ bad tooShort 0
         unfolding valuesOutcome
         values-narrow k =
-            then-rest e words (length marks) valuesTests (good found 0) s h ∙ rw (c, lt-ltb (length out) (start + length found) k)
+            then-rest e words (length marks) valuesTests (good found 0) s h ∙ rw (c, lt-ltb room (start + length found) k)
 
-        pub values-taken : start + length (risingValues e words marks a) ≤ length out
-            → valuesOutcome e words marks a start out ≡ good (risingValues e words marks a) 0
+        pub values-taken : start + length (risingValues e words marks a) ≤ room
+            → valuesOutcome e words marks a start room ≡ good (risingValues e words marks a) 0
         unfolding valuesOutcome
         values-taken k =
-            then-rest e words (length marks) valuesTests (good found 0) s h ∙ rw (c, le-ltb (length out) (start + length found) k)
+            then-rest e words (length marks) valuesTests (good found 0) s h ∙ rw (c, le-ltb room (start + length found) k)
 
 -- a value occurs, where tables, marks and column are right, as it is among the column's values
 module _ (e : Envelope) (a : Place) (words marks : List ℕ) (x : ℕ) where

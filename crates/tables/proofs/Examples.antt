@@ -56,9 +56,9 @@ module _ (rest : List ℕ) where
   unfolding padded numbersFrom relationsOf columnsIn withRelations countIn wordsBefore firstWord shaped
   rows-limit h = rw h refl
 
-  pub rows-over : shaped one (4097 ∷ rest) ≡ false
+  pub rows-too-many : shaped one (4097 ∷ rest) ≡ false
   unfolding padded numbersFrom relationsOf columnsIn withRelations countIn wordsBefore firstWord shaped
-  rows-over = refl
+  rows-too-many = refl
 
   -- 16,384 words pass, 16,385 do not
   pub words-limit : length rest ≡ 16380 → shaped four (4095 ∷ 4095 ∷ 4095 ∷ 4095 ∷ rest) ≡ true

@@ -23,9 +23,16 @@ shaped e words =
 
 -- ---- the refusals that calls on tables and marks begin with
 
--- 10, 11: the shape, and so many marks, one for each row at least
+-- 10: the shape; 11: so many marks, one for each row at least
+abbrev pub shapeTest : Envelope → List ℕ → Test
+shapeTest e words = test (not (shaped e words)) wrongShape 0
+
+abbrev pub markCountTest : Envelope → List ℕ → ℕ → Test
+markCountTest e words n = test (ltb n (rowCount e words)) tooShort 0
+
+-- 10, 11: both
 abbrev pub marksTests : Envelope → List ℕ → ℕ → List Test
-marksTests e words n = test (not (shaped e words)) wrongShape 0 ∷ test (ltb n (rowCount e words)) tooShort 0 ∷ []
+marksTests e words n = shapeTest e words ∷ markCountTest e words n ∷ []
 
 -- 10, 11, 14: these, and the envelope has the column
 abbrev pub columnTests : Envelope → Place → List ℕ → ℕ → List Test

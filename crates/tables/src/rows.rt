@@ -2,23 +2,20 @@
 // any extent; the others know that it lies within.
 use crate::offsets::Extent;
 ghost use mathlib.Core.Path.{_≡_};
-ghost use mathlib.Core.List.{[]};
 ghost use Prim.Native.Nat.{_+_, _*_, _<_, _≤_};
-ghost use lib.ListN.{length, getD};
-ghost use Rattle.paths.specs.Meaning.{wordIn};
-ghost use Rattle.tables.specs.Rows.{isKept, wordOver, keptOver};
-ghost use Rattle.tables.specs.Offsets.{rowsOver, marksOver};
+ghost use lib.ListN.{length};
+ghost use Rattle.tables.specs.Rows.{wordOver, keptOver};
 
 pub(crate) fn word_in(tables: &[u32], extent: Extent, row: usize, column: u8) -> u32
     requires { ⌜ (row < extent .rows) × (column < extent .columns) × (extent .word + extent .rows * extent .columns ≤ length (now tables)) ⌝ }
-    ensures { λ r. ⌜ r ≡ wordIn (getD (rowsOver extent (now (tables .entry))) row []) column ⌝ }
+    ensures { λ r. ⌜ r ≡ wordOver extent (now (tables .entry)) row column ⌝ }
 {
     tables[extent.word + row * extent.columns + column as usize]
 }
 
 pub(crate) fn kept_at(marks: &[u8], extent: Extent, row: usize) -> bool
     requires { ⌜ (row < extent .rows) × (extent .mark + extent .rows ≤ length (now marks)) ⌝ }
-    ensures { λ r. ⌜ r ≡ isKept (getD (marksOver extent (now (marks .entry))) row 0) ⌝ }
+    ensures { λ r. ⌜ r ≡ keptOver extent (now (marks .entry)) row ⌝ }
 {
     marks[extent.mark + row] != 0
 }

@@ -1,5 +1,4 @@
 use lib.Seq.{length-take-le}
-use native.Mathlib.Omega.{arith}
 use borrow.Author.Needs.{needs}
 use Rattle.answers.proofs.delivered.Statement.{statement}
 use Rattle.answers.proofs.delivered.Tie as tie
@@ -7,43 +6,33 @@ use Rattle.answers.proofs.delivered.Reads as reads
 use Rattle.answers.proofs.delivered.Lts as lts
 use Rattle.station.proofs.receiving.receive.Reads as receive-reads
 
--- src/main.rt:137:14
 enum-told : tie.Need-enum-told
 enum-told c = search needs
 
--- src/main.rt:138:22
 enum-known-made : tie.Need-enum-known-made
 enum-known-made c = search needs
 
--- src/main.rt:140:17
 returns : tie.Need-returns
 returns c = search needs
 
--- src/main.rt:142:61
 slice-aggregate-receive : tie.Need-slice-aggregate-receive
 slice-aggregate-receive c = search needs
 
--- src/main.rt:142:85
 slice-aggregate-receive-2 : tie.Need-slice-aggregate-receive-2
 slice-aggregate-receive-2 c = search (length-take-le, needs)
 
--- src/main.rt:142:17
 receive-requires : tie.Need-receive-requires
 receive-requires c κs = search needs
 
--- src/main.rt:131:1
 returns-2 : tie.Need-returns-2
 returns-2 c = search needs
 
--- src/main.rt:131:1
 same-length : tie.Need-same-length
 same-length c = search needs
 
--- src/main.rt:131:1
 same-length-2 : tie.Need-same-length-2
 same-length-2 c = search needs
 
--- src/main.rt:131:1
 returns-3 : tie.Need-returns-3
 returns-3 c = search needs
 

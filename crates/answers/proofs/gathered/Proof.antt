@@ -9,51 +9,39 @@ use Rattle.answers.proofs.reduced.Reads as reduced-reads
 use Rattle.answers.proofs.with_coupons.Reads as with-coupons-reads
 use Rattle.answers.proofs.with_weights.Reads as with-weights-reads
 
--- src/main.rt:191:33
 slice-aggregate-reduced : tie.Need-slice-aggregate-reduced
 slice-aggregate-reduced c = search needs
 
--- src/main.rt:191:9
 reduced-requires : tie.Need-reduced-requires
 reduced-requires c κs = search needs
 
--- src/main.rt:192:11
 slice-aggregate-asked : tie.Need-slice-aggregate-asked
 slice-aggregate-asked c = search needs
 
--- src/main.rt:192:5
 asked-requires : tie.Need-asked-requires
 asked-requires c κs = search needs
 
--- src/main.rt:193:37
 slice-aggregate-with-coupons : tie.Need-slice-aggregate-with-coupons
 slice-aggregate-with-coupons c = search needs
 
--- src/main.rt:193:9
 with-coupons-requires : tie.Need-with-coupons-requires
 with-coupons-requires c κs = search needs
 
--- src/main.rt:194:11
 slice-aggregate-asked-2 : tie.Need-slice-aggregate-asked-2
 slice-aggregate-asked-2 c = search needs
 
--- src/main.rt:194:5
 asked-requires-2 : tie.Need-asked-requires-2
 asked-requires-2 c κs = search needs
 
--- src/main.rt:195:33
 slice-aggregate-with-weights : tie.Need-slice-aggregate-with-weights
 slice-aggregate-with-weights c = search needs
 
--- src/main.rt:195:5
 with-weights-requires : tie.Need-with-weights-requires
 with-weights-requires c κs = search needs
 
--- src/main.rt:189:1
 same-length : tie.Need-same-length
 same-length c = omega (arith, c .before .before .before .before .before .before .before .before .before .before .before .before .before .before .before .before .before .before .before .before .before .reduced .kept .1 .1 .0, c .before .before .before .before .before .before .before .before .before .before .before .before .with-coupons .kept .1 .1 .0, c .before .before .before .with-weights .kept .1 .1 .1 .0)
 
--- src/main.rt:189:1
 returns : tie.Need-returns
 returns c = search needs
 

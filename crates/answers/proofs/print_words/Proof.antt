@@ -15,55 +15,42 @@ Inv-loop what words i₀ t4 t5 i = i ≤ length words
 abbrev μ-loop : tie.MeasureT-loop
 μ-loop what words i₀ t4 t5 i = length words - i
 
--- src/main.rt:55:5
 write-all-requires : tie.Need-write-all-requires Inv-loop μ-loop
 write-all-requires c κs = search needs
 
--- src/main.rt:57:5
 loop-holds : tie.Need-loop-holds Inv-loop μ-loop
 loop-holds c = omega arith
 
--- src/main.rt:58:26
 slice-aggregate-write-all : tie.Need-slice-aggregate-write-all Inv-loop μ-loop
 slice-aggregate-write-all c = omega arith
 
--- src/main.rt:58:9
 write-all-requires-2 : tie.Need-write-all-requires-2 Inv-loop μ-loop
 write-all-requires-2 c κs = search needs
 
--- src/main.rt:59:20
 mul-print-word : tie.Need-mul-print-word Inv-loop μ-loop
 mul-print-word c = omega arith
 
--- src/main.rt:59:20
 shared-slice-read-print-word : tie.Need-shared-slice-read-print-word Inv-loop μ-loop
 shared-slice-read-print-word c = omega arith
 
--- src/main.rt:59:9
 print-word-requires : tie.Need-print-word-requires Inv-loop μ-loop
 print-word-requires c κs = search needs
 
--- src/main.rt:60:9
 add-i : tie.Need-add-i Inv-loop μ-loop
 add-i c = omega arith
 
--- src/main.rt:57:5
 loop-less : tie.Need-loop-less Inv-loop μ-loop
 loop-less c = omega arith
 
--- src/main.rt:57:5
 loop-again : tie.Need-loop-again Inv-loop μ-loop
 loop-again c = omega arith
 
--- src/main.rt:62:22
 slice-aggregate-write-all-2 : tie.Need-slice-aggregate-write-all-2 Inv-loop μ-loop
 slice-aggregate-write-all-2 c = omega arith
 
--- src/main.rt:62:5
 write-all-requires-3 : tie.Need-write-all-requires-3 Inv-loop μ-loop
 write-all-requires-3 c κs = search needs
 
--- src/main.rt:54:1
 returns : tie.Need-returns Inv-loop μ-loop
 returns c = search needs
 

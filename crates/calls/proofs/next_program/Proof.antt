@@ -7,31 +7,24 @@ use Rattle.calls.proofs.next_program.Lts as lts
 use Rattle.calls.proofs.input.next_bytes.Reads as next-bytes-reads
 use Rattle.calls.proofs.with_papers.Reads as with-papers-reads
 
--- src/main.rt:32:37
 slice-aggregate-next-bytes : tie.Need-slice-aggregate-next-bytes
 slice-aggregate-next-bytes c = search needs
 
--- src/main.rt:32:9
 next-bytes-requires : tie.Need-next-bytes-requires
 next-bytes-requires c κs = tt
 
--- src/main.rt:34:9
 returns : tie.Need-returns
 returns c = tt
 
--- src/main.rt:37:33
 array-borrow-prefix-program : tie.Need-array-borrow-prefix-program
 array-borrow-prefix-program c = search needs
 
--- src/main.rt:37:33
 slice-aggregate-with-papers : tie.Need-slice-aggregate-with-papers
 slice-aggregate-with-papers c = search (length-take-le, needs)
 
--- src/main.rt:37:5
 with-papers-requires : tie.Need-with-papers-requires
 with-papers-requires c κs = tt
 
--- src/main.rt:30:1
 returns-2 : tie.Need-returns-2
 returns-2 c = tt
 

@@ -6,23 +6,18 @@ use Rattle.boundary.proofs.answers.answer_of.Reads as reads
 use Rattle.boundary.proofs.answers.answer_of.Lts as lts
 use Rattle.boundary.proofs.answers.as_word.Reads as as-word-reads
 
--- src/answers.rt:19:5
 mul-result : tie.Need-mul-result
 mul-result c = search needs
 
--- src/answers.rt:19:34
 as-word-requires : tie.Need-as-word-requires
 as-word-requires c κs = search needs
 
--- src/answers.rt:19:34
 cast-result : tie.Need-cast-result
 cast-result c = search needs
 
--- src/answers.rt:19:5
 add-result : tie.Need-add-result
 add-result c = search needs
 
--- src/answers.rt:16:1
 returns : tie.Need-returns
 returns c = search (answer-is, needs)
 

@@ -5,15 +5,12 @@ use Rattle.boundary.proofs.answers.as_word.Tie as tie
 use Rattle.boundary.proofs.answers.as_word.Reads as reads
 use Rattle.boundary.proofs.answers.as_word.Lts as lts
 
--- src/answers.rt:13:25
 cast-result : tie.Need-cast-result
 cast-result c = search needs
 
--- src/answers.rt:10:1
 returns : tie.Need-returns
 returns c = search (word-below, needs)
 
--- src/answers.rt:10:1
 returns-2 : tie.Need-returns-2
 returns-2 c = search (word-beyond, needs)
 

@@ -6,27 +6,21 @@ use Rattle.boundary.proofs.answers.of_verdict.Reads as reads
 use Rattle.boundary.proofs.answers.of_verdict.Lts as lts
 use Rattle.boundary.proofs.answers.answer_of.Reads as answer-of-reads
 
--- src/answers.rt:26:27
 enum-told : tie.Need-enum-told
 enum-told c = search needs
 
--- src/answers.rt:26:27
 answer-of-requires : tie.Need-answer-of-requires
 answer-of-requires c κs = search needs
 
--- src/answers.rt:27:28
 enum-known-verdict : tie.Need-enum-known-verdict
 enum-known-verdict c = search needs
 
--- src/answers.rt:27:50
 answer-of-requires-2 : tie.Need-answer-of-requires-2
 answer-of-requires-2 c κs = search needs
 
--- src/answers.rt:22:1
 returns : tie.Need-returns
 returns c = search (verdict-taken, verdict-refused, needs)
 
--- src/answers.rt:22:1
 returns-2 : tie.Need-returns-2
 returns-2 c = search (verdict-taken, verdict-refused, needs)
 

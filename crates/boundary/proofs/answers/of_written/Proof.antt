@@ -6,27 +6,21 @@ use Rattle.boundary.proofs.answers.of_written.Reads as reads
 use Rattle.boundary.proofs.answers.of_written.Lts as lts
 use Rattle.boundary.proofs.answers.answer_of.Reads as answer-of-reads
 
--- src/answers.rt:35:25
 enum-known-written : tie.Need-enum-known-written
 enum-known-written c = search needs
 
--- src/answers.rt:35:31
 answer-of-requires : tie.Need-answer-of-requires
 answer-of-requires c κs = search needs
 
--- src/answers.rt:36:28
 enum-known-written-2 : tie.Need-enum-known-written-2
 enum-known-written-2 c = search needs
 
--- src/answers.rt:36:50
 answer-of-requires-2 : tie.Need-answer-of-requires-2
 answer-of-requires-2 c κs = search needs
 
--- src/answers.rt:31:1
 returns : tie.Need-returns
 returns c = search (written-length, written-refused, needs)
 
--- src/answers.rt:31:1
 returns-2 : tie.Need-returns-2
 returns-2 c = search (written-length, written-refused, needs)
 

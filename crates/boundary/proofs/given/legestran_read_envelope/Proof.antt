@@ -7,15 +7,12 @@ use Rattle.boundary.proofs.given.legestran_read_envelope.Lts as lts
 use Rattle.boundary.proofs.answers.of_verdict.Reads as of-verdict-reads
 use Rattle.envelopes.proofs.reading.read_envelope.Reads as read-envelope-reads
 
--- src/given.rt:98:9
 read-envelope-requires : tie.Need-read-envelope-requires
 read-envelope-requires c κs = search needs
 
--- src/given.rt:100:5
 of-verdict-requires : tie.Need-of-verdict-requires
 of-verdict-requires c κs = search needs
 
--- src/given.rt:94:1
 returns : tie.Need-returns
 returns c = search (envelope-said, needs)
 

@@ -7,15 +7,12 @@ use Rattle.boundary.proofs.given.legestran_read_program.Lts as lts
 use Rattle.boundary.proofs.answers.of_verdict.Reads as of-verdict-reads
 use Rattle.boundary.proofs.given.read_papers.Reads as read-papers-reads
 
--- src/given.rt:108:9
 read-papers-requires : tie.Need-read-papers-requires
 read-papers-requires c κs = search needs
 
--- src/given.rt:110:5
 of-verdict-requires : tie.Need-of-verdict-requires
 of-verdict-requires c κs = search needs
 
--- src/given.rt:104:1
 returns : tie.Need-returns
 returns c = search (papers-said, needs)
 

@@ -1,4 +1,4 @@
-use Rattle.boundary.proofs.GivenLaws.{end-short, end-papers, end-unclear, end-read}
+use Rattle.boundary.proofs.GivenCodeLaws.{end-short, end-papers, end-unclear, end-read}
 use borrow.Author.Needs.{needs}
 use Rattle.boundary.proofs.given.read_end.Statement.{statement}
 use Rattle.boundary.proofs.given.read_end.Tie as tie
@@ -9,51 +9,39 @@ use Rattle.boundary.proofs.given.refused_end.Reads as refused-end-reads
 use Rattle.boundary.proofs.states.end_of.Reads as end-of-reads
 use Rattle.boundary.proofs.states.is_unclear.Reads as is-unclear-reads
 
--- src/given.rt:73:9
 refused-end-requires : tie.Need-refused-end-requires
 refused-end-requires c κs = search needs
 
--- src/given.rt:73:9
 returns : tie.Need-returns
 returns c = search (end-short, needs)
 
--- src/given.rt:75:9
 read-papers-requires : tie.Need-read-papers-requires
 read-papers-requires c κs = search needs
 
--- src/given.rt:78:28
 enum-known-verdict : tie.Need-enum-known-verdict
 enum-known-verdict c = search needs
 
--- src/given.rt:78:50
 refused-end-requires-2 : tie.Need-refused-end-requires-2
 refused-end-requires-2 c κs = search needs
 
--- src/given.rt:80:16
 enum-told : tie.Need-enum-told
 enum-told c = search needs
 
--- src/given.rt:80:16
 is-unclear-requires : tie.Need-is-unclear-requires
 is-unclear-requires c κs = search needs
 
--- src/given.rt:81:17
 refused-end-requires-3 : tie.Need-refused-end-requires-3
 refused-end-requires-3 c κs = search needs
 
--- src/given.rt:81:17
 returns-2 : tie.Need-returns-2
 returns-2 c = end-unclear _ _ _ (c .before .before .before .before .before .before .if1 .left) _ (c .before .before .before .before .before .read-papers .ensures) (c .before .before .before .enum-told .given .1) _ (c .before .before .is-unclear .ensures) (c .before .if2 .taken) _ (c .refused-end3 .ensures)
 
--- src/given.rt:84:17
 end-of-requires : tie.Need-end-of-requires
 end-of-requires c κs = search needs
 
--- src/given.rt:69:1
 returns-3 : tie.Need-returns-3
 returns-3 c = end-papers _ _ _ (c .before .before .before .before .before .if1 .left) _ (c .before .before .before .before .read-papers .ensures) _ _ _ (c .before .before .verdict .given .1) (c .refused-end2 .ensures)
 
--- src/given.rt:69:1
 returns-4 : tie.Need-returns-4
 returns-4 c = search (end-read, needs)
 

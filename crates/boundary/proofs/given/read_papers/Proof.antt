@@ -1,4 +1,4 @@
-use Rattle.boundary.proofs.GivenLaws.{given-envelope, given-program, given-papers}
+use Rattle.boundary.proofs.GivenCodeLaws.{given-envelope, given-program, given-papers}
 use borrow.Author.Needs.{needs}
 use Rattle.boundary.proofs.given.read_papers.Statement.{statement}
 use Rattle.boundary.proofs.given.read_papers.Tie as tie
@@ -8,47 +8,36 @@ use Rattle.papers.proofs.checks.refused_papers.Reads as refused-papers-reads
 use Rattle.envelopes.proofs.reading.read_envelope.Reads as read-envelope-reads
 use Rattle.papers.proofs.programs.read_program.Reads as read-program-reads
 
--- src/given.rt:25:9
 read-envelope-requires : tie.Need-read-envelope-requires
 read-envelope-requires c κs = search needs
 
--- src/given.rt:27:9
 read-program-requires : tie.Need-read-program-requires
 read-program-requires c κs = search needs
 
--- src/given.rt:32:28
 enum-known-verdict : tie.Need-enum-known-verdict
 enum-known-verdict c = search needs
 
--- src/given.rt:32:50
 refused-papers-requires : tie.Need-refused-papers-requires
 refused-papers-requires c κs = search needs
 
--- src/given.rt:33:27
 enum-told : tie.Need-enum-told
 enum-told c = search needs
 
--- src/given.rt:34:32
 enum-known-found : tie.Need-enum-known-found
 enum-known-found c = search needs
 
--- src/given.rt:34:54
 refused-papers-requires-2 : tie.Need-refused-papers-requires-2
 refused-papers-requires-2 c κs = search needs
 
--- src/given.rt:36:26
 enum-told-2 : tie.Need-enum-told-2
 enum-told-2 c = search needs
 
--- src/given.rt:22:1
 returns : tie.Need-returns
 returns c = search (given-envelope, needs)
 
--- src/given.rt:22:1
 returns-2 : tie.Need-returns-2
 returns-2 c = search (given-program, needs)
 
--- src/given.rt:22:1
 returns-3 : tie.Need-returns-3
 returns-3 c = search (given-papers, needs)
 

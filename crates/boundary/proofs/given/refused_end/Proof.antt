@@ -1,4 +1,4 @@
-use Rattle.boundary.proofs.GivenLaws.{end-none}
+use Rattle.boundary.proofs.GivenCodeLaws.{end-none}
 use borrow.Author.Needs.{needs}
 use Rattle.boundary.proofs.given.refused_end.Statement.{statement}
 use Rattle.boundary.proofs.given.refused_end.Tie as tie
@@ -6,11 +6,9 @@ use Rattle.boundary.proofs.given.refused_end.Reads as reads
 use Rattle.boundary.proofs.given.refused_end.Lts as lts
 use Rattle.ends.proofs.ends.no_end.Reads as no-end-reads
 
--- src/given.rt:80:9
 no-end-requires : tie.Need-no-end-requires
 no-end-requires c κs = search needs
 
--- src/given.rt:77:1
 returns : tie.Need-returns
 returns c = search (end-none, needs)
 

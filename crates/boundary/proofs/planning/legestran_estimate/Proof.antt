@@ -10,43 +10,33 @@ use Rattle.boundary.proofs.given.read_papers.Reads as read-papers-reads
 use Rattle.boundary.proofs.planning.put_estimate.Reads as put-estimate-reads
 use Rattle.estimates.proofs.estimator.estimate.Reads as estimate-reads
 
--- src/planning.rt:152:9
 read-papers-requires : tie.Need-read-papers-requires
 read-papers-requires c κs = search needs
 
--- src/planning.rt:155:28
 enum-known-verdict : tie.Need-enum-known-verdict
 enum-known-verdict c = search needs
 
--- src/planning.rt:155:50
 answer-of-requires : tie.Need-answer-of-requires
 answer-of-requires c κs = search needs
 
--- src/planning.rt:157:17
 enum-told : tie.Need-enum-told
 enum-told c = search needs
 
--- src/planning.rt:160:17
 estimate-requires : tie.Need-estimate-requires
 estimate-requires c κs = search needs
 
--- src/planning.rt:162:17
 put-estimate-requires : tie.Need-put-estimate-requires
 put-estimate-requires c κs = search needs
 
--- src/planning.rt:163:13
 of-written-requires : tie.Need-of-written-requires
 of-written-requires c κs = search needs
 
--- src/planning.rt:148:1
 returns : tie.Need-returns
 returns c = estimate-refused _ _ _ _ (c .before .before .before .before .read-papers .ensures) _ _ _ (c .before .before .verdict .given .1) (c .answer-of .ensures)
 
--- src/planning.rt:148:1
 same-length : tie.Need-same-length
 same-length c = search needs
 
--- src/planning.rt:148:1
 returns-2 : tie.Need-returns-2
 returns-2 c = estimate-taken _ _ _ _ (c .before .before .before .before .before .before .before .before .before .before .before .before .read-papers .ensures) (c .before .before .before .before .before .before .before .before .before .before .enum-told .given .1) _ _ _ _ (c .before .before .before .before .before .before .estimate .ensures) (c .before .before .before .put-estimate .ensures) (c .of-written .ensures)
 

@@ -10,43 +10,33 @@ use Rattle.boundary.proofs.planning.program_for.Reads as program-for-re
 use Rattle.envelopes.proofs.reading.read_envelope.Reads as read-envelope-reads
 use Rattle.papers.proofs.programs.write_program.Reads as write-program-reads
 
--- src/planning.rt:68:9
 read-envelope-requires : tie.Need-read-envelope-requires
 read-envelope-requires c κs = search needs
 
--- src/planning.rt:71:28
 enum-known-verdict : tie.Need-enum-known-verdict
 enum-known-verdict c = search needs
 
--- src/planning.rt:71:50
 answer-of-requires : tie.Need-answer-of-requires
 answer-of-requires c κs = search needs
 
--- src/planning.rt:73:17
 enum-told : tie.Need-enum-told
 enum-told c = search needs
 
--- src/planning.rt:74:17
 program-for-requires : tie.Need-program-for-requires
 program-for-requires c κs = search needs
 
--- src/planning.rt:75:17
 write-program-requires : tie.Need-write-program-requires
 write-program-requires c κs = search needs
 
--- src/planning.rt:76:13
 of-written-requires : tie.Need-of-written-requires
 of-written-requires c κs = search needs
 
--- src/planning.rt:64:1
 returns : tie.Need-returns
 returns c = plan-refused _ _ _ (c .before .before .before .before .read-envelope .ensures) _ _ _ (c .before .before .verdict .given .1) (c .answer-of .ensures)
 
--- src/planning.rt:64:1
 same-length : tie.Need-same-length
 same-length c = search needs
 
--- src/planning.rt:64:1
 returns-2 : tie.Need-returns-2
 returns-2 c = plan-taken _ _ _ (c .before .before .before .before .before .before .before .before .before .read-envelope .ensures) (c .before .before .before .before .before .before .before .enum-told .given .1) _ _ _ _ (c .before .before .before .before .before .program-for .ensures) (c .before .before .before .write-program .ensures) (c .of-written .ensures)
 

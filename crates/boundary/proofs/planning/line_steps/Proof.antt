@@ -17,43 +17,33 @@ Inv-loop lines steps₀ i₀ steps i = Copying (lineSteps lines) steps₀ 0 156 
 abbrev μ-loop : tie.MeasureT-loop
 μ-loop lines steps₀ i₀ steps i = 156 - i
 
--- src/planning.rt:32:9
 no-step-requires : tie.Need-no-step-requires Inv-loop μ-loop
 no-step-requires c κs = search needs
 
--- src/planning.rt:39:5
 loop-holds : tie.Need-loop-holds Inv-loop μ-loop
 loop-holds c = copying-start _ _ _ _ (steps-start _ (omega arith))
 
--- src/planning.rt:40:20
 mul-line : tie.Need-mul-line Inv-loop μ-loop
 mul-line c = omega arith
 
--- src/planning.rt:40:20
 array-copy-out-line : tie.Need-array-copy-out-line Inv-loop μ-loop
 array-copy-out-line c = omega arith
 
--- src/planning.rt:42:9
 mul-steps : tie.Need-mul-steps Inv-loop μ-loop
 mul-steps c = omega arith
 
--- src/planning.rt:42:9
 array-set-from-steps : tie.Need-array-set-from-steps Inv-loop μ-loop
 array-set-from-steps c = omega arith
 
--- src/planning.rt:43:9
 add-i : tie.Need-add-i Inv-loop μ-loop
 add-i c = omega arith
 
--- src/planning.rt:39:5
 loop-less : tie.Need-loop-less Inv-loop μ-loop
 loop-less c = omega arith
 
--- src/planning.rt:39:5
 loop-again : tie.Need-loop-again Inv-loop μ-loop
 loop-again c = steps-more _ _ _ _ (c .before .before .before .loop .inv) (omega arith) (c .before .before .loop-test .taken) _ _ refl
 
--- src/planning.rt:29:1
 returns : tie.Need-returns Inv-loop μ-loop
 returns c = steps-done _ _ _ _ (c .before .loop .inv) (omega arith) (c .loop-test .left) refl
 

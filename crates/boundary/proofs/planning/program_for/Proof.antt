@@ -7,15 +7,12 @@ use Rattle.boundary.proofs.planning.program_for.Lts as lts
 use Rattle.boundary.proofs.planning.line_steps.Reads as line-steps-reads
 use Rattle.planner.proofs.planner.plan_paper.Reads as plan-paper-reads
 
--- src/planning.rt:53:9
 plan-paper-requires : tie.Need-plan-paper-requires
 plan-paper-requires c κs = search needs
 
--- src/planning.rt:55:9
 line-steps-requires : tie.Need-line-steps-requires
 line-steps-requires c κs = search needs
 
--- src/planning.rt:50:1
 returns : tie.Need-returns
 returns c = program-is _ _ _ (c .before .before .plan-paper .ensures) (c .line-steps .ensures)
 

@@ -9,47 +9,36 @@ use Rattle.boundary.proofs.planning.put_lines.Reads as put-lines-reads
 use Rattle.boundary.proofs.planning.put_two.Reads as put-two-reads
 use Rattle.ground.proofs.used.in_use.Reads as in-use-reads
 
--- src/planning.rt:131:28
 enum-known-verdict : tie.Need-enum-known-verdict
 enum-known-verdict c = search needs
 
--- src/planning.rt:133:17
 enum-told : tie.Need-enum-told
 enum-told c = search needs
 
--- src/planning.rt:133:17
 in-use-requires : tie.Need-in-use-requires
 in-use-requires c κs = search needs
 
--- src/planning.rt:134:28
 mul-if1 : tie.Need-mul-if1
 mul-if1 c = search needs
 
--- src/planning.rt:134:28
 add-if1 : tie.Need-add-if1
 add-if1 c = search needs
 
--- src/planning.rt:135:17
 returns : tie.Need-returns
 returns c = estimate-short _ _ (c .before .before .before .before .before .pre) (omega arith) _ (c .before .in-use .ensures) _ (c .before .before .enum-told .given .1) (c .if1 .taken)
 
--- src/planning.rt:140:17
 put-lines-requires : tie.Need-put-lines-requires
 put-lines-requires c κs = search needs
 
--- src/planning.rt:141:17
 put-two-requires : tie.Need-put-two-requires
 put-two-requires c κs = search needs
 
--- src/planning.rt:125:1
 returns-2 : tie.Need-returns-2
 returns-2 c = estimate-none _ _ _ _ (c .before .verdict .given .1)
 
--- src/planning.rt:125:1
 same-length : tie.Need-same-length
 same-length c = search needs
 
--- src/planning.rt:125:1
 returns-3 : tie.Need-returns-3
 returns-3 c = estimate-put _ _ (c .before .before .before .before .before .before .before .before .before .before .before .before .before .pre) (omega arith) _ (c .before .before .before .before .before .before .before .before .before .in-use .ensures) _ (c .before .before .before .before .before .before .before .before .before .before .enum-told .given .1) _ _ _ _ (c .before .before .before .before .before .before .put-lines .ensures) (c .before .before .put-two .ensures) (c .before .before .before .before .before .before .before .before .if1 .left)
 

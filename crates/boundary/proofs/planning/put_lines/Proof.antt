@@ -17,43 +17,33 @@ Inv-loop out₀ count lines end i₀ p₀ out i p = Writing lineWords 4 lines ou
 abbrev μ-loop : tie.MeasureT-loop
 μ-loop out₀ count lines end i₀ p₀ out i p = end - i
 
--- src/planning.rt:113:9
 in-use-requires : tie.Need-in-use-requires Inv-loop μ-loop
 in-use-requires c κs = search needs
 
--- src/planning.rt:116:5
 loop-holds : tie.Need-loop-holds Inv-loop μ-loop
 loop-holds c = writing-start _ _ _ _ _ _ (omega arith)
 
--- src/planning.rt:117:20
 mul-line : tie.Need-mul-line Inv-loop μ-loop
 mul-line c = omega arith
 
--- src/planning.rt:117:20
 array-copy-out-line : tie.Need-array-copy-out-line Inv-loop μ-loop
 array-copy-out-line c = omega arith
 
--- src/planning.rt:118:9
 put-two-requires : tie.Need-put-two-requires Inv-loop μ-loop
 put-two-requires c κs = search needs
 
--- src/planning.rt:119:9
 add-i : tie.Need-add-i Inv-loop μ-loop
 add-i c = omega arith
 
--- src/planning.rt:116:5
 loop-less : tie.Need-loop-less Inv-loop μ-loop
 loop-less c = omega arith
 
--- src/planning.rt:116:5
 loop-again : tie.Need-loop-again Inv-loop μ-loop
 loop-again c = search (line-puts, needs)
 
--- src/planning.rt:110:1
 same-length : tie.Need-same-length Inv-loop μ-loop
 same-length c = omega arith
 
--- src/planning.rt:110:1
 returns : tie.Need-returns Inv-loop μ-loop
 returns c = search (writing-place, writing-done, needs)
 

@@ -6,31 +6,24 @@ use Rattle.boundary.proofs.planning.put_pair.Reads as reads
 use Rattle.boundary.proofs.planning.put_pair.Lts as lts
 use Rattle.boundary.proofs.planning.put_word.Reads as put-word-reads
 
--- src/planning.rt:95:23
 cast-put-word : tie.Need-cast-put-word
 cast-put-word c = search needs
 
--- src/planning.rt:95:5
 put-word-requires : tie.Need-put-word-requires
 put-word-requires c κs = search needs
 
--- src/planning.rt:96:19
 add-put-word : tie.Need-add-put-word
 add-put-word c = search needs
 
--- src/planning.rt:96:27
 cast-put-word-2 : tie.Need-cast-put-word-2
 cast-put-word-2 c = search needs
 
--- src/planning.rt:96:5
 put-word-requires-2 : tie.Need-put-word-requires-2
 put-word-requires-2 c κs = search needs
 
--- src/planning.rt:91:1
 same-length : tie.Need-same-length
 same-length c = search needs
 
--- src/planning.rt:91:1
 returns : tie.Need-returns
 returns c = search (pair-put, needs)
 

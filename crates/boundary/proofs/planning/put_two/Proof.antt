@@ -6,27 +6,21 @@ use Rattle.boundary.proofs.planning.put_two.Reads as reads
 use Rattle.boundary.proofs.planning.put_two.Lts as lts
 use Rattle.boundary.proofs.planning.put_pair.Reads as put-pair-reads
 
--- src/planning.rt:104:5
 put-pair-requires : tie.Need-put-pair-requires
 put-pair-requires c κs = search needs
 
--- src/planning.rt:105:19
 add-put-pair : tie.Need-add-put-pair
 add-put-pair c = search needs
 
--- src/planning.rt:105:5
 put-pair-requires-2 : tie.Need-put-pair-requires-2
 put-pair-requires-2 c κs = search needs
 
--- src/planning.rt:106:5
 add-result : tie.Need-add-result
 add-result c = search needs
 
--- src/planning.rt:100:1
 same-length : tie.Need-same-length
 same-length c = search needs
 
--- src/planning.rt:100:1
 returns : tie.Need-returns
 returns c = search (two-put, needs)
 

@@ -7,23 +7,18 @@ use Rattle.boundary.proofs.planning.put_word.Tie as tie
 use Rattle.boundary.proofs.planning.put_word.Reads as reads
 use Rattle.boundary.proofs.planning.put_word.Lts as lts
 
--- src/planning.rt:86:9
 mul-out : tie.Need-mul-out
 mul-out c = search needs
 
--- src/planning.rt:86:9
 slice-write-out : tie.Need-slice-write-out
 slice-write-out c = search needs
 
--- src/planning.rt:82:1
 same-length : tie.Need-same-length
 same-length c = search needs
 
--- src/planning.rt:82:1
 returns : tie.Need-returns
 returns c = search needs
 
--- src/planning.rt:82:1
 returns-2 : tie.Need-returns-2
 returns-2 c = sym (set-out _ _ _ (omega arith))
 

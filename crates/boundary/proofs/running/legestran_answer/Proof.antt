@@ -9,39 +9,30 @@ use Rattle.boundary.proofs.answers.answer_of.Reads as answer-of-reads
 use Rattle.boundary.proofs.answers.of_written.Reads as of-written-reads
 use Rattle.envelopes.proofs.reading.read_envelope.Reads as read-envelope-reads
 
--- src/running.rt:39:9
 read-envelope-requires : tie.Need-read-envelope-requires
 read-envelope-requires c κs = search needs
 
--- src/running.rt:42:28
 enum-known-verdict : tie.Need-enum-known-verdict
 enum-known-verdict c = search needs
 
--- src/running.rt:42:50
 answer-of-requires : tie.Need-answer-of-requires
 answer-of-requires c κs = search needs
 
--- src/running.rt:44:17
 enum-told : tie.Need-enum-told
 enum-told c = search needs
 
--- src/running.rt:45:17
 answer-requires : tie.Need-answer-requires
 answer-requires c κs = search needs
 
--- src/running.rt:46:13
 of-written-requires : tie.Need-of-written-requires
 of-written-requires c κs = search needs
 
--- src/running.rt:35:1
 returns : tie.Need-returns
 returns c = answer-refused _ _ _ _ (c .before .before .before .before .read-envelope .ensures) _ _ _ (c .before .before .verdict .given .1) (c .answer-of .ensures)
 
--- src/running.rt:35:1
 same-length : tie.Need-same-length
 same-length c = search needs
 
--- src/running.rt:35:1
 returns-2 : tie.Need-returns-2
 returns-2 c = answer-taken _ _ _ _ (c .before .before .before .before .before .before .before .before .read-envelope .ensures) (c .before .before .before .before .before .before .enum-told .given .1) _ _ _ (c .before .before .before .answer .ensures) (c .of-written .ensures)
 

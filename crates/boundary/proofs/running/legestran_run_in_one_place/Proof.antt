@@ -9,39 +9,30 @@ use Rattle.boundary.proofs.answers.of_verdict.Reads as of-verdict-reads
 use Rattle.boundary.proofs.given.read_papers.Reads as read-papers-reads
 use Rattle.semijoin.proofs.run.run_in_one_place.Reads as run-in-one-place-reads
 
--- src/running.rt:20:9
 read-papers-requires : tie.Need-read-papers-requires
 read-papers-requires c κs = search needs
 
--- src/running.rt:23:28
 enum-known-verdict : tie.Need-enum-known-verdict
 enum-known-verdict c = search needs
 
--- src/running.rt:23:50
 answer-of-requires : tie.Need-answer-of-requires
 answer-of-requires c κs = search needs
 
--- src/running.rt:25:17
 enum-told : tie.Need-enum-told
 enum-told c = search needs
 
--- src/running.rt:28:17
 run-in-one-place-requires : tie.Need-run-in-one-place-requires
 run-in-one-place-requires c κs = search needs
 
--- src/running.rt:29:13
 of-verdict-requires : tie.Need-of-verdict-requires
 of-verdict-requires c κs = search needs
 
--- src/running.rt:11:1
 returns : tie.Need-returns
 returns c = run-refused _ _ _ _ _ (c .before .before .before .before .read-papers .ensures) _ _ _ (c .before .before .verdict .given .1) (c .answer-of .ensures)
 
--- src/running.rt:11:1
 same-length : tie.Need-same-length
 same-length c = search needs
 
--- src/running.rt:11:1
 returns-2 : tie.Need-returns-2
 returns-2 c = run-taken _ _ _ _ _ (c .before .before .before .before .before .before .before .before .before .before .read-papers .ensures) (c .before .before .before .before .before .before .before .before .enum-told .given .1) _ _ _ (c .before .before .before .run-in-one-place .ensures) (c .of-verdict .ensures)
 

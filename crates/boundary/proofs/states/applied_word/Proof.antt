@@ -5,31 +5,24 @@ use Rattle.boundary.proofs.states.applied_word.Tie as tie
 use Rattle.boundary.proofs.states.applied_word.Reads as reads
 use Rattle.boundary.proofs.states.applied_word.Lts as lts
 
--- src/states.rt:67:9
 mul-result : tie.Need-mul-result
 mul-result c = search needs
 
--- src/states.rt:67:9
 array-read-result : tie.Need-array-read-result
 array-read-result c = search needs
 
--- src/states.rt:69:15
 add-result : tie.Need-add-result
 add-result c = search needs
 
--- src/states.rt:69:9
 mul-result-2 : tie.Need-mul-result-2
 mul-result-2 c = search needs
 
--- src/states.rt:69:9
 shared-slice-read-result : tie.Need-shared-slice-read-result
 shared-slice-read-result c = search needs
 
--- src/states.rt:62:1
 returns : tie.Need-returns
 returns c = search (applied-own, needs)
 
--- src/states.rt:62:1
 returns-2 : tie.Need-returns-2
 returns-2 c = search (applied-behind, needs)
 

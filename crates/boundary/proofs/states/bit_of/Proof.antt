@@ -5,11 +5,9 @@ use Rattle.boundary.proofs.states.bit_of.Tie as tie
 use Rattle.boundary.proofs.states.bit_of.Reads as reads
 use Rattle.boundary.proofs.states.bit_of.Lts as lts
 
--- src/states.rt:55:1
 returns : tie.Need-returns
 returns c = search (bit-set, needs)
 
--- src/states.rt:55:1
 returns-2 : tie.Need-returns-2
 returns-2 c = search (bit-clear, needs)
 

@@ -6,87 +6,66 @@ use Rattle.boundary.proofs.states.end_of.Reads as reads
 use Rattle.boundary.proofs.states.end_of.Lts as lts
 use Rattle.boundary.proofs.states.wide.Reads as wide-reads
 
--- src/states.rt:38:9
 shared-slice-read-t8 : tie.Need-shared-slice-read-t8
 shared-slice-read-t8 c = search needs
 
--- src/states.rt:38:19
 shared-slice-read-t10 : tie.Need-shared-slice-read-t10
 shared-slice-read-t10 c = search needs
 
--- src/states.rt:38:29
 shared-slice-read-t12 : tie.Need-shared-slice-read-t12
 shared-slice-read-t12 c = search needs
 
--- src/states.rt:38:39
 shared-slice-read-t14 : tie.Need-shared-slice-read-t14
 shared-slice-read-t14 c = search needs
 
--- src/states.rt:38:49
 shared-slice-read-t16 : tie.Need-shared-slice-read-t16
 shared-slice-read-t16 c = search needs
 
--- src/states.rt:38:59
 shared-slice-read-t18 : tie.Need-shared-slice-read-t18
 shared-slice-read-t18 c = search needs
 
--- src/states.rt:38:69
 shared-slice-read-t20 : tie.Need-shared-slice-read-t20
 shared-slice-read-t20 c = search needs
 
--- src/states.rt:38:79
 shared-slice-read-t22 : tie.Need-shared-slice-read-t22
 shared-slice-read-t22 c = search needs
 
--- src/states.rt:41:9
 shared-slice-read-t8-2 : tie.Need-shared-slice-read-t8-2
 shared-slice-read-t8-2 c = search needs
 
--- src/states.rt:42:9
 shared-slice-read-t22-2 : tie.Need-shared-slice-read-t22-2
 shared-slice-read-t22-2 c = search needs
 
--- src/states.rt:43:9
 shared-slice-read-t20-2 : tie.Need-shared-slice-read-t20-2
 shared-slice-read-t20-2 c = search needs
 
--- src/states.rt:44:9
 shared-slice-read-t18-2 : tie.Need-shared-slice-read-t18-2
 shared-slice-read-t18-2 c = search needs
 
--- src/states.rt:45:9
 shared-slice-read-t16-2 : tie.Need-shared-slice-read-t16-2
 shared-slice-read-t16-2 c = search needs
 
--- src/states.rt:46:9
 shared-slice-read-t14-2 : tie.Need-shared-slice-read-t14-2
 shared-slice-read-t14-2 c = search needs
 
--- src/states.rt:47:9
 shared-slice-read-t12-2 : tie.Need-shared-slice-read-t12-2
 shared-slice-read-t12-2 c = search needs
 
--- src/states.rt:48:9
 shared-slice-read-t10-2 : tie.Need-shared-slice-read-t10-2
 shared-slice-read-t10-2 c = search needs
 
--- src/states.rt:53:15
 shared-slice-read-t8-3 : tie.Need-shared-slice-read-t8-3
 shared-slice-read-t8-3 c = search needs
 
--- src/states.rt:54:14
 shared-slice-read-t22-3 : tie.Need-shared-slice-read-t22-3
 shared-slice-read-t22-3 c = search needs
 
--- src/states.rt:57:20
 shared-slice-read-wide : tie.Need-shared-slice-read-wide
 shared-slice-read-wide c = search needs
 
--- src/states.rt:57:15
 wide-requires : tie.Need-wide-requires
 wide-requires c κs = search needs
 
--- src/states.rt:31:1
 returns : tie.Need-returns
 returns c = end-is _ _ _ (c .wide .ensures)
 

@@ -15,39 +15,30 @@ Inv-loop state relation₀ relation = Looking someFrom (unclearAt state) 8 relat
 abbrev μ-loop : tie.MeasureT-loop
 μ-loop state relation₀ relation = 8 - relation
 
--- src/states.rt:15:5
 loop-holds : tie.Need-loop-holds Inv-loop μ-loop
 loop-holds c = search (looking-start, needs)
 
--- src/states.rt:16:22
 add-if1 : tie.Need-add-if1 Inv-loop μ-loop
 add-if1 c = omega arith
 
--- src/states.rt:16:16
 mul-if1 : tie.Need-mul-if1 Inv-loop μ-loop
 mul-if1 c = omega arith
 
--- src/states.rt:16:16
 shared-slice-read-if1 : tie.Need-shared-slice-read-if1 Inv-loop μ-loop
 shared-slice-read-if1 c = omega arith
 
--- src/states.rt:17:13
 returns : tie.Need-returns Inv-loop μ-loop
 returns c = search (unclear-found, needs)
 
--- src/states.rt:19:9
 add-relation : tie.Need-add-relation Inv-loop μ-loop
 add-relation c = omega arith
 
--- src/states.rt:15:5
 loop-less : tie.Need-loop-less Inv-loop μ-loop
 loop-less c = omega arith
 
--- src/states.rt:15:5
 loop-again : tie.Need-loop-again Inv-loop μ-loop
 loop-again c = search (unclear-passed, needs)
 
--- src/states.rt:10:1
 returns-2 : tie.Need-returns-2 Inv-loop μ-loop
 returns-2 c = search (unclear-none, needs)
 

@@ -15,47 +15,36 @@ Inv-loop state₀ words i₀ state i = Copying words state₀ 0 19 i i state
 abbrev μ-loop : tie.MeasureT-loop
 μ-loop state₀ words i₀ state i = 19 - i
 
--- src/states.rt:109:17
 state-words-requires : tie.Need-state-words-requires Inv-loop μ-loop
 state-words-requires c κs = search needs
 
--- src/states.rt:111:5
 loop-holds : tie.Need-loop-holds Inv-loop μ-loop
 loop-holds c = search (copying-start, needs)
 
--- src/states.rt:112:20
 mul-state : tie.Need-mul-state Inv-loop μ-loop
 mul-state c = omega arith
 
--- src/states.rt:112:20
 array-read-state : tie.Need-array-read-state Inv-loop μ-loop
 array-read-state c = omega arith
 
--- src/states.rt:112:9
 mul-state-2 : tie.Need-mul-state-2 Inv-loop μ-loop
 mul-state-2 c = omega arith
 
--- src/states.rt:112:9
 slice-write-state : tie.Need-slice-write-state Inv-loop μ-loop
 slice-write-state c = omega (arith, copying-length _ _ _ _ _ _ _ (c .before .loop .inv))
 
--- src/states.rt:113:9
 add-i : tie.Need-add-i Inv-loop μ-loop
 add-i c = omega arith
 
--- src/states.rt:111:5
 loop-less : tie.Need-loop-less Inv-loop μ-loop
 loop-less c = omega arith
 
--- src/states.rt:111:5
 loop-again : tie.Need-loop-again Inv-loop μ-loop
 loop-again c = search (copying-more, needs)
 
--- src/states.rt:105:1
 same-length : tie.Need-same-length Inv-loop μ-loop
 same-length c = search (copying-length, needs)
 
--- src/states.rt:105:1
 returns : tie.Need-returns Inv-loop μ-loop
 returns c = search (state-put, needs)
 

@@ -10,39 +10,30 @@ use Rattle.boundary.proofs.answers.of_written.Reads as of-written-reads
 use Rattle.boundary.proofs.given.read_end.Reads as read-end-reads
 use Rattle.station.proofs.making.make_values.Reads as make-values-reads
 
--- src/ends.rt:117:9
 read-end-requires : tie.Need-read-end-requires
 read-end-requires c κs = search needs
 
--- src/ends.rt:120:28
 enum-known-verdict : tie.Need-enum-known-verdict
 enum-known-verdict c = search needs
 
--- src/ends.rt:120:50
 answer-of-requires : tie.Need-answer-of-requires
 answer-of-requires c κs = search needs
 
--- src/ends.rt:122:17
 enum-told : tie.Need-enum-told
 enum-told c = search needs
 
--- src/ends.rt:123:17
 make-values-requires : tie.Need-make-values-requires
 make-values-requires c κs = search needs
 
--- src/ends.rt:124:13
 of-written-requires : tie.Need-of-written-requires
 of-written-requires c κs = search needs
 
--- src/ends.rt:105:1
 returns : tie.Need-returns
 returns c = values-refused _ _ _ _ _ _ _ _ (c .before .before .before .before .read-end .ensures) _ _ _ (c .before .before .verdict .given .1) (c .answer-of .ensures)
 
--- src/ends.rt:105:1
 same-length : tie.Need-same-length
 same-length c = omega arith
 
--- src/ends.rt:105:1
 returns-2 : tie.Need-returns-2
 returns-2 c = values-taken _ _ _ _ _ _ _ _ (c .before .before .before .before .before .before .before .before .read-end .ensures) (c .before .before .before .before .before .before .enum-told .given .1) _ _ _ (c .before .before .before .make-values .ensures) (c .of-written .ensures)
 

@@ -9,43 +9,33 @@ use Rattle.boundary.proofs.answers.of_verdict.Reads as of-verdict-reads
 use Rattle.boundary.proofs.stations.open_given.Reads as open-given-reads
 use Rattle.boundary.proofs.given.read_papers.Reads as read-papers-reads
 
--- src/ends.rt:90:9
 read-papers-requires : tie.Need-read-papers-requires
 read-papers-requires c κs = search needs
 
--- src/ends.rt:93:28
 enum-known-verdict : tie.Need-enum-known-verdict
 enum-known-verdict c = search needs
 
--- src/ends.rt:93:50
 answer-of-requires : tie.Need-answer-of-requires
 answer-of-requires c κs = search needs
 
--- src/ends.rt:95:17
 enum-told : tie.Need-enum-told
 enum-told c = search needs
 
--- src/ends.rt:98:17
 open-given-requires : tie.Need-open-given-requires
 open-given-requires c κs = search needs
 
--- src/ends.rt:99:13
 of-verdict-requires : tie.Need-of-verdict-requires
 of-verdict-requires c κs = search needs
 
--- src/ends.rt:78:1
 returns : tie.Need-returns
 returns c = open-refused _ _ _ _ _ _ _ _ (c .before .before .before .before .read-papers .ensures) _ _ _ (c .before .before .verdict .given .1) (c .answer-of .ensures)
 
--- src/ends.rt:78:1
 same-length : tie.Need-same-length
 same-length c = search needs
 
--- src/ends.rt:78:1
 same-length-2 : tie.Need-same-length-2
 same-length-2 c = search needs
 
--- src/ends.rt:78:1
 returns-2 : tie.Need-returns-2
 returns-2 c = open-taken _ _ _ _ _ _ _ _ (c .before .before .before .before .before .before .before .before .before .before .before .before .before .read-papers .ensures) (c .before .before .before .before .before .before .before .before .before .before .before .enum-told .given .1) _ _ _ _ (c .before .before .before .before .before .open-given .ensures) (c .of-verdict .ensures)
 

@@ -8,47 +8,36 @@ use Rattle.boundary.proofs.stations.refuse_opening.Reads as refuse-open
 use Rattle.boundary.proofs.states.put_state.Reads as put-state-reads
 use Rattle.station.proofs.opening.open.Reads as open-reads
 
--- src/ends.rt:63:9
 refuse-opening-requires : tie.Need-refuse-opening-requires
 refuse-opening-requires c κs = search needs
 
--- src/ends.rt:63:9
 returns : tie.Need-returns
 returns c = given-short _ _ _ _ _ _ _ (c .before .if1 .taken) _ (c .refuse-opening .ensures)
 
--- src/ends.rt:65:9
 open-requires : tie.Need-open-requires
 open-requires c κs = search needs
 
--- src/ends.rt:68:28
 enum-known-verdict : tie.Need-enum-known-verdict
 enum-known-verdict c = search needs
 
--- src/ends.rt:70:17
 enum-told : tie.Need-enum-told
 enum-told c = search needs
 
--- src/ends.rt:71:13
 put-state-requires : tie.Need-put-state-requires
 put-state-requires c κs = search needs
 
--- src/ends.rt:51:1
 same-length : tie.Need-same-length
 same-length c = search needs
 
--- src/ends.rt:51:1
 returns-2 : tie.Need-returns-2
 returns-2 c = given-refused _ _ _ _ _ _ _ (c .before .before .before .before .before .before .before .if1 .left) _ _ (c .before .before .before .before .before .«open» .ensures) _ _ (c .before .verdict .given .1)
 
--- src/ends.rt:51:1
 same-length-2 : tie.Need-same-length-2
 same-length-2 c = search needs
 
--- src/ends.rt:51:1
 same-length-3 : tie.Need-same-length-3
 same-length-3 c = search needs
 
--- src/ends.rt:51:1
 returns-3 : tie.Need-returns-3
 returns-3 c = given-opened _ _ _ _ _ _ _ (c .before .before .before .before .before .before .before .before .before .before .before .if1 .left) _ _ (c .before .before .before .before .before .before .before .before .before .«open» .ensures) (c .before .before .before .before .before .enum-told .given .1) _ (c .before .before .put-state .ensures)
 

@@ -7,51 +7,39 @@ use Rattle.boundary.proofs.stations.receive_given.Lts as lts
 use Rattle.boundary.proofs.states.put_state.Reads as put-state-reads
 use Rattle.station.proofs.receiving.receive.Reads as receive-reads
 
--- src/ends.rt:167:9
 returns : tie.Need-returns
 returns c = receive-long _ _ _ _ _ _ (c .if1 .taken)
 
--- src/ends.rt:172:9
 receive-requires : tie.Need-receive-requires
 receive-requires c κs = search needs
 
--- src/ends.rt:175:28
 enum-known-verdict : tie.Need-enum-known-verdict
 enum-known-verdict c = search needs
 
--- src/ends.rt:177:17
 enum-told : tie.Need-enum-told
 enum-told c = search needs
 
--- src/ends.rt:178:13
 put-state-requires : tie.Need-put-state-requires
 put-state-requires c κs = search needs
 
--- src/ends.rt:155:1
 same-length : tie.Need-same-length
 same-length c = search needs
 
--- src/ends.rt:155:1
 same-length-2 : tie.Need-same-length-2
 same-length-2 c = search needs
 
--- src/ends.rt:155:1
 returns-2 : tie.Need-returns-2
 returns-2 c = receive-refused _ _ _ _ _ _ (c .before .before .before .before .before .before .before .before .before .before .if1 .left) _ _ _ (c .before .before .before .before .before .before .before .receive .ensures) _ _ (c .before .verdict .given .1)
 
--- src/ends.rt:155:1
 same-length-3 : tie.Need-same-length-3
 same-length-3 c = search needs
 
--- src/ends.rt:155:1
 same-length-4 : tie.Need-same-length-4
 same-length-4 c = search needs
 
--- src/ends.rt:155:1
 same-length-5 : tie.Need-same-length-5
 same-length-5 c = search needs
 
--- src/ends.rt:155:1
 returns-3 : tie.Need-returns-3
 returns-3 c = receive-taken _ _ _ _ _ _ (c .before .before .before .before .before .before .before .before .before .before .before .before .before .before .if1 .left) _ _ _ (c .before .before .before .before .before .before .before .before .before .before .before .receive .ensures) (c .before .before .before .before .before .enum-told .given .1) _ (c .before .before .put-state .ensures)
 

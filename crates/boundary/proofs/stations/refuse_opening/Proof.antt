@@ -6,27 +6,21 @@ use Rattle.boundary.proofs.stations.refuse_opening.Reads as reads
 use Rattle.boundary.proofs.stations.refuse_opening.Lts as lts
 use Rattle.station.proofs.opening.open.Reads as open-reads
 
--- src/ends.rt:39:79
 slice-aggregate-open : tie.Need-slice-aggregate-open
 slice-aggregate-open c = search needs
 
--- src/ends.rt:39:9
 open-requires : tie.Need-open-requires
 open-requires c κs = search needs
 
--- src/ends.rt:42:28
 enum-known-verdict : tie.Need-enum-known-verdict
 enum-known-verdict c = search needs
 
--- src/ends.rt:43:27
 enum-told : tie.Need-enum-told
 enum-told c = search needs
 
--- src/ends.rt:29:1
 returns : tie.Need-returns
 returns c = refuse-same _ _ _ _ _ _ _ (c .before .before .before .before .«open» .ensures .0) _ _ (c .before .verdict .given .1)
 
--- src/ends.rt:29:1
 returns-2 : tie.Need-returns-2
 returns-2 c = refuse-short _ _ _ _ _ _ _ (c .before .before .before .«open» .ensures .0) (c .enum-told .given .1)
 

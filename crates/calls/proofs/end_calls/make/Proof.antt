@@ -8,35 +8,27 @@ use Rattle.calls.proofs.end_calls.put_made.Reads as put-made-reads
 use Rattle.calls.proofs.input.next_number.Reads as next-number-reads
 use Rattle.calls.proofs.input.next_words.Reads as next-words-reads
 
--- src/end_calls.rt:106:9
 next-number-requires : tie.Need-next-number-requires
 next-number-requires c κs = tt
 
--- src/end_calls.rt:107:45
 slice-aggregate-next-words : tie.Need-slice-aggregate-next-words
 slice-aggregate-next-words c = search needs
 
--- src/end_calls.rt:107:9
 next-words-requires : tie.Need-next-words-requires
 next-words-requires c κs = tt
 
--- src/end_calls.rt:109:9
 returns : tie.Need-returns
 returns c = tt
 
--- src/end_calls.rt:120:9
 array-borrow-prefix-message : tie.Need-array-borrow-prefix-message
 array-borrow-prefix-message c = search needs
 
--- src/end_calls.rt:120:9
 slice-aggregate-put-made : tie.Need-slice-aggregate-put-made
 slice-aggregate-put-made c = search (length-take-le, needs)
 
--- src/end_calls.rt:112:5
 put-made-requires : tie.Need-put-made-requires
 put-made-requires c κs = tt
 
--- src/end_calls.rt:97:1
 returns-2 : tie.Need-returns-2
 returns-2 c = tt
 

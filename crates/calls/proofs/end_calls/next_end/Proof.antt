@@ -8,63 +8,48 @@ use Rattle.calls.proofs.end_calls.with_end.Reads as with-end-reads
 use Rattle.calls.proofs.input.next_bytes.Reads as next-bytes-reads
 use Rattle.calls.proofs.input.next_words.Reads as next-words-reads
 
--- src/end_calls.rt:61:37
 slice-aggregate-next-words : tie.Need-slice-aggregate-next-words
 slice-aggregate-next-words c = search needs
 
--- src/end_calls.rt:61:9
 next-words-requires : tie.Need-next-words-requires
 next-words-requires c κs = tt
 
--- src/end_calls.rt:62:40
 slice-aggregate-next-words-2 : tie.Need-slice-aggregate-next-words-2
 slice-aggregate-next-words-2 c = search needs
 
--- src/end_calls.rt:62:9
 next-words-requires-2 : tie.Need-next-words-requires-2
 next-words-requires-2 c κs = tt
 
--- src/end_calls.rt:63:40
 slice-aggregate-next-bytes : tie.Need-slice-aggregate-next-bytes
 slice-aggregate-next-bytes c = search needs
 
--- src/end_calls.rt:63:9
 next-bytes-requires : tie.Need-next-bytes-requires
 next-bytes-requires c κs = tt
 
--- src/end_calls.rt:65:9
 returns : tie.Need-returns
 returns c = tt
 
--- src/end_calls.rt:74:9
 array-borrow-prefix-state : tie.Need-array-borrow-prefix-state
 array-borrow-prefix-state c = search needs
 
--- src/end_calls.rt:74:9
 slice-aggregate-with-end : tie.Need-slice-aggregate-with-end
 slice-aggregate-with-end c = search (length-take-le, needs)
 
--- src/end_calls.rt:75:9
 array-share-prefix-tables : tie.Need-array-share-prefix-tables
 array-share-prefix-tables c = search needs
 
--- src/end_calls.rt:75:9
 slice-aggregate-with-end-2 : tie.Need-slice-aggregate-with-end-2
 slice-aggregate-with-end-2 c = search (length-take-le, needs)
 
--- src/end_calls.rt:76:9
 array-borrow-prefix-marks : tie.Need-array-borrow-prefix-marks
 array-borrow-prefix-marks c = search needs
 
--- src/end_calls.rt:76:9
 slice-aggregate-with-end-3 : tie.Need-slice-aggregate-with-end-3
 slice-aggregate-with-end-3 c = search (length-take-le, needs)
 
--- src/end_calls.rt:70:5
 with-end-requires : tie.Need-with-end-requires
 with-end-requires c κs = tt
 
--- src/end_calls.rt:57:1
 returns-2 : tie.Need-returns-2
 returns-2 c = tt
 

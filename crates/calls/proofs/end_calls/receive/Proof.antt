@@ -7,55 +7,42 @@ use Rattle.calls.proofs.end_calls.receive.Lts as lts
 use Rattle.calls.proofs.end_calls.put_received.Reads as put-received-reads
 use Rattle.calls.proofs.input.next_words.Reads as next-words-reads
 
--- src/end_calls.rt:190:37
 slice-aggregate-next-words : tie.Need-slice-aggregate-next-words
 slice-aggregate-next-words c = search needs
 
--- src/end_calls.rt:190:9
 next-words-requires : tie.Need-next-words-requires
 next-words-requires c κs = tt
 
--- src/end_calls.rt:191:40
 slice-aggregate-next-words-2 : tie.Need-slice-aggregate-next-words-2
 slice-aggregate-next-words-2 c = search needs
 
--- src/end_calls.rt:191:9
 next-words-requires-2 : tie.Need-next-words-requires-2
 next-words-requires-2 c κs = tt
 
--- src/end_calls.rt:193:9
 returns : tie.Need-returns
 returns c = tt
 
--- src/end_calls.rt:203:9
 array-borrow-prefix-store : tie.Need-array-borrow-prefix-store
 array-borrow-prefix-store c = search needs
 
--- src/end_calls.rt:203:9
 slice-aggregate-put-received : tie.Need-slice-aggregate-put-received
 slice-aggregate-put-received c = search (length-take-le, needs)
 
--- src/end_calls.rt:204:9
 array-share-prefix-message : tie.Need-array-share-prefix-message
 array-share-prefix-message c = search needs
 
--- src/end_calls.rt:204:9
 slice-aggregate-put-received-2 : tie.Need-slice-aggregate-put-received-2
 slice-aggregate-put-received-2 c = search (length-take-le, needs)
 
--- src/end_calls.rt:197:5
 put-received-requires : tie.Need-put-received-requires
 put-received-requires c κs = tt
 
--- src/end_calls.rt:181:1
 same-length : tie.Need-same-length
 same-length c = search needs
 
--- src/end_calls.rt:181:1
 same-length-2 : tie.Need-same-length-2
 same-length-2 c = search needs
 
--- src/end_calls.rt:181:1
 returns-2 : tie.Need-returns-2
 returns-2 c = tt
 

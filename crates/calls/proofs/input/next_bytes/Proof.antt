@@ -19,83 +19,63 @@ Inv-loop sound buffer₀ whole n space₀ done₀ buffer space done = (done ≤ 
 abbrev μ-loop : tie.MeasureT-loop
 μ-loop sound buffer₀ whole n space₀ done₀ buffer space done = n - done
 
--- src/input.rt:179:9
 next-length-requires : tie.Need-next-length-requires Inv-loop μ-loop
 next-length-requires c κs = search needs
 
--- src/input.rt:181:21
 buffer-requires : tie.Need-buffer-requires Inv-loop μ-loop
 buffer-requires c κs = search needs
 
--- src/input.rt:183:5
 loop-holds : tie.Need-loop-holds Inv-loop μ-loop
 loop-holds c = (omega arith, omega arith, omega arith, omega arith, omega arith)
 
--- src/input.rt:184:26
 sub-part-of : tie.Need-sub-part-of Inv-loop μ-loop
 sub-part-of c = omega arith
 
--- src/input.rt:184:13
 part-of-requires : tie.Need-part-of-requires Inv-loop μ-loop
 part-of-requires c κs = search needs
 
--- src/input.rt:185:36
 slice-aggregate-read-part : tie.Need-slice-aggregate-read-part Inv-loop μ-loop
 slice-aggregate-read-part c = omega arith
 
--- src/input.rt:185:13
 read-part-requires : tie.Need-read-part-requires Inv-loop μ-loop
 read-part-requires c κs = omega arith
 
--- src/input.rt:187:13
 damaged-requires : tie.Need-damaged-requires Inv-loop μ-loop
 damaged-requires c κs = search needs
 
--- src/input.rt:187:13
 same-length : tie.Need-same-length Inv-loop μ-loop
 same-length c = omega arith
 
--- src/input.rt:187:13
 returns : tie.Need-returns Inv-loop μ-loop
 returns c = (omega arith, omega arith)
 
--- src/input.rt:189:24
 slice-aggregate-take-bytes : tie.Need-slice-aggregate-take-bytes Inv-loop μ-loop
 slice-aggregate-take-bytes c = omega arith
 
--- src/input.rt:189:13
 take-bytes-requires : tie.Need-take-bytes-requires Inv-loop μ-loop
 take-bytes-requires c κs = (omega arith, omega arith)
 
--- src/input.rt:190:13
 damaged-requires-2 : tie.Need-damaged-requires-2 Inv-loop μ-loop
 damaged-requires-2 c κs = search needs
 
--- src/input.rt:190:13
 same-length-2 : tie.Need-same-length-2 Inv-loop μ-loop
 same-length-2 c = omega arith
 
--- src/input.rt:190:13
 returns-2 : tie.Need-returns-2 Inv-loop μ-loop
 returns-2 c = (omega arith, omega arith)
 
--- src/input.rt:192:9
 add-done : tie.Need-add-done Inv-loop μ-loop
 add-done c = omega arith
 
--- src/input.rt:183:5
 loop-less : tie.Need-loop-less Inv-loop μ-loop
 loop-less c = omega arith
 
--- src/input.rt:183:5
 loop-again : tie.Need-loop-again Inv-loop μ-loop
 loop-again c = (omega arith, omega arith, omega arith, omega arith, omega arith)
 
--- src/input.rt:176:1
 same-length-3 : tie.Need-same-length-3 Inv-loop μ-loop
 same-length-3 c = omega arith
 
--- src/input.rt:176:1
 returns-3 : tie.Need-returns-3 Inv-loop μ-loop
 returns-3 c = (omega arith, omega arith)
 

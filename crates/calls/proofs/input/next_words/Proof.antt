@@ -19,71 +19,54 @@ Inv-loop sound buffer₀ whole n space₀ done₀ buffer space done = (done ≤ 
 abbrev μ-loop : tie.MeasureT-loop
 μ-loop sound buffer₀ whole n space₀ done₀ buffer space done = n - done
 
--- src/input.rt:159:9
 next-length-requires : tie.Need-next-length-requires Inv-loop μ-loop
 next-length-requires c κs = search needs
 
--- src/input.rt:161:21
 buffer-requires : tie.Need-buffer-requires Inv-loop μ-loop
 buffer-requires c κs = search needs
 
--- src/input.rt:163:5
 loop-holds : tie.Need-loop-holds Inv-loop μ-loop
 loop-holds c = (omega arith, omega arith, omega arith, omega arith, omega arith)
 
--- src/input.rt:164:26
 sub-part-of : tie.Need-sub-part-of Inv-loop μ-loop
 sub-part-of c = omega arith
 
--- src/input.rt:164:13
 part-of-requires : tie.Need-part-of-requires Inv-loop μ-loop
 part-of-requires c κs = search needs
 
--- src/input.rt:165:36
 slice-aggregate-read-part : tie.Need-slice-aggregate-read-part Inv-loop μ-loop
 slice-aggregate-read-part c = omega arith
 
--- src/input.rt:165:13
 read-part-requires : tie.Need-read-part-requires Inv-loop μ-loop
 read-part-requires c κs = omega arith
 
--- src/input.rt:167:13
 damaged-requires : tie.Need-damaged-requires Inv-loop μ-loop
 damaged-requires c κs = search needs
 
--- src/input.rt:167:13
 same-length : tie.Need-same-length Inv-loop μ-loop
 same-length c = omega arith
 
--- src/input.rt:167:13
 returns : tie.Need-returns Inv-loop μ-loop
 returns c = (omega arith, omega arith)
 
--- src/input.rt:169:20
 slice-aggregate-take-words : tie.Need-slice-aggregate-take-words Inv-loop μ-loop
 slice-aggregate-take-words c = omega arith
 
--- src/input.rt:169:9
 take-words-requires : tie.Need-take-words-requires Inv-loop μ-loop
 take-words-requires c κs = (omega arith, omega arith)
 
--- src/input.rt:170:9
 add-done : tie.Need-add-done Inv-loop μ-loop
 add-done c = omega arith
 
--- src/input.rt:163:5
 loop-less : tie.Need-loop-less Inv-loop μ-loop
 loop-less c = omega arith
 
--- src/input.rt:163:5
 loop-again : tie.Need-loop-again Inv-loop μ-loop
 loop-again c = (omega arith, omega arith, omega arith, omega arith, omega arith)
 
--- src/input.rt:156:1
 same-length-2 : tie.Need-same-length-2 Inv-loop μ-loop
 same-length-2 c = omega arith
 
--- src/input.rt:156:1
 returns-2 : tie.Need-returns-2 Inv-loop μ-loop
 returns-2 c = (omega arith, omega arith)
 

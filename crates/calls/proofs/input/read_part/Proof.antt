@@ -7,31 +7,24 @@ use Rattle.calls.proofs.input.read_part.Reads as reads
 use Rattle.calls.proofs.input.read_part.Lts as lts
 use Rattle.io.proofs.read_full.Reads as read-full-reads
 
--- src/input.rt:113:13
 mul-n : tie.Need-mul-n
 mul-n c = search needs
 
--- src/input.rt:115:9
 returns : tie.Need-returns
 returns c = search needs
 
--- src/input.rt:117:32
 slice-relend-prefix-read-full : tie.Need-slice-relend-prefix-read-full
 slice-relend-prefix-read-full c = search needs
 
--- src/input.rt:117:32
 slice-aggregate-read-full : tie.Need-slice-aggregate-read-full
 slice-aggregate-read-full c = rw length-take (omega arith)
 
--- src/input.rt:117:9
 read-full-requires : tie.Need-read-full-requires
 read-full-requires c κs = search needs
 
--- src/input.rt:109:1
 same-length : tie.Need-same-length
 same-length c = search needs
 
--- src/input.rt:109:1
 returns-2 : tie.Need-returns-2
 returns-2 c = search needs
 

@@ -8,7 +8,7 @@ use Rattle.calls.proofs.input.take_bytes.Tie as tie
 use Rattle.calls.proofs.input.take_bytes.Reads as reads
 use Rattle.calls.proofs.input.take_bytes.Lts as lts
 use Rattle.calls.proofs.input.store_byte.Reads as store-byte-reads
-use Rattle.calls.proofs.input.word_at.Reads as word-at-reads
+use Rattle.calls.proofs.input.word_from_bytes.Reads as word-from-bytes-reads
 
 abbrev Inv-loop : tie.InvT-loop
 Inv-loop chunk part buffer₀ from i₀ buffer i = (i ≤ part) × (length buffer ≡ length buffer₀)
@@ -16,55 +16,42 @@ Inv-loop chunk part buffer₀ from i₀ buffer i = (i ≤ part) × (length buffe
 abbrev μ-loop : tie.MeasureT-loop
 μ-loop chunk part buffer₀ from i₀ buffer i = part - i
 
--- src/input.rt:144:5
 loop-holds : tie.Need-loop-holds Inv-loop μ-loop
 loop-holds c = (omega arith, omega arith)
 
--- src/input.rt:145:35
-mul-word-at : tie.Need-mul-word-at Inv-loop μ-loop
-mul-word-at c = omega arith
+mul-word-from-bytes : tie.Need-mul-word-from-bytes Inv-loop μ-loop
+mul-word-from-bytes c = omega arith
 
--- src/input.rt:145:13
-word-at-requires : tie.Need-word-at-requires Inv-loop μ-loop
-word-at-requires c κs = search needs
+word-from-bytes-requires : tie.Need-word-from-bytes-requires Inv-loop μ-loop
+word-from-bytes-requires c κs = search needs
 
--- src/input.rt:147:13
 same-length : tie.Need-same-length Inv-loop μ-loop
 same-length c = omega arith
 
--- src/input.rt:147:13
 returns : tie.Need-returns Inv-loop μ-loop
 returns c = omega arith
 
--- src/input.rt:149:28
 add-store-byte : tie.Need-add-store-byte Inv-loop μ-loop
 add-store-byte c = omega arith
 
--- src/input.rt:149:38
 cast-store-byte : tie.Need-cast-store-byte Inv-loop μ-loop
 cast-store-byte c = omega arith
 
--- src/input.rt:149:9
 store-byte-requires : tie.Need-store-byte-requires Inv-loop μ-loop
 store-byte-requires c κs = search needs
 
--- src/input.rt:150:9
 add-i : tie.Need-add-i Inv-loop μ-loop
 add-i c = omega arith
 
--- src/input.rt:144:5
 loop-less : tie.Need-loop-less Inv-loop μ-loop
 loop-less c = omega arith
 
--- src/input.rt:144:5
 loop-again : tie.Need-loop-again Inv-loop μ-loop
 loop-again c = (omega arith, omega arith)
 
--- src/input.rt:139:1
 same-length-2 : tie.Need-same-length-2 Inv-loop μ-loop
 same-length-2 c = omega arith
 
--- src/input.rt:139:1
 returns-2 : tie.Need-returns-2 Inv-loop μ-loop
 returns-2 c = omega arith
 
@@ -75,8 +62,8 @@ take-bytes-spec =
     Inv-loop
     μ-loop
     loop-holds
-    mul-word-at
-    word-at-requires
+    mul-word-from-bytes
+    word-from-bytes-requires
     same-length
     returns
     add-store-byte

@@ -8,7 +8,7 @@ use Rattle.calls.proofs.input.take_words.Tie as tie
 use Rattle.calls.proofs.input.take_words.Reads as reads
 use Rattle.calls.proofs.input.take_words.Lts as lts
 use Rattle.calls.proofs.input.store_word.Reads as store-word-reads
-use Rattle.calls.proofs.input.word_at.Reads as word-at-reads
+use Rattle.calls.proofs.input.word_from_bytes.Reads as word-from-bytes-reads
 
 abbrev Inv-loop : tie.InvT-loop
 Inv-loop chunk part buffer₀ from i₀ buffer i = (i ≤ part) × (length buffer ≡ length buffer₀)
@@ -16,43 +16,33 @@ Inv-loop chunk part buffer₀ from i₀ buffer i = (i ≤ part) × (length buffe
 abbrev μ-loop : tie.MeasureT-loop
 μ-loop chunk part buffer₀ from i₀ buffer i = part - i
 
--- src/input.rt:131:5
 loop-holds : tie.Need-loop-holds Inv-loop μ-loop
 loop-holds c = (omega arith, omega arith)
 
--- src/input.rt:132:35
-mul-word-at : tie.Need-mul-word-at Inv-loop μ-loop
-mul-word-at c = omega arith
+mul-word-from-bytes : tie.Need-mul-word-from-bytes Inv-loop μ-loop
+mul-word-from-bytes c = omega arith
 
--- src/input.rt:132:13
-word-at-requires : tie.Need-word-at-requires Inv-loop μ-loop
-word-at-requires c κs = search needs
+word-from-bytes-requires : tie.Need-word-from-bytes-requires Inv-loop μ-loop
+word-from-bytes-requires c κs = search needs
 
--- src/input.rt:133:28
 add-store-word : tie.Need-add-store-word Inv-loop μ-loop
 add-store-word c = omega arith
 
--- src/input.rt:133:9
 store-word-requires : tie.Need-store-word-requires Inv-loop μ-loop
 store-word-requires c κs = search needs
 
--- src/input.rt:134:9
 add-i : tie.Need-add-i Inv-loop μ-loop
 add-i c = omega arith
 
--- src/input.rt:131:5
 loop-less : tie.Need-loop-less Inv-loop μ-loop
 loop-less c = omega arith
 
--- src/input.rt:131:5
 loop-again : tie.Need-loop-again Inv-loop μ-loop
 loop-again c = (omega arith, omega arith)
 
--- src/input.rt:126:1
 same-length : tie.Need-same-length Inv-loop μ-loop
 same-length c = omega arith
 
--- src/input.rt:126:1
 returns : tie.Need-returns Inv-loop μ-loop
 returns c = omega arith
 
@@ -63,8 +53,8 @@ take-words-spec =
     Inv-loop
     μ-loop
     loop-holds
-    mul-word-at
-    word-at-requires
+    mul-word-from-bytes
+    word-from-bytes-requires
     add-store-word
     store-word-requires
     add-i

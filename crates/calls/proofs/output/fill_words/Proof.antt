@@ -15,47 +15,36 @@ Inv-loop words from part chunk₀ i₀ chunk i = (i ≤ part) × (length chunk �
 abbrev μ-loop : tie.MeasureT-loop
 μ-loop words from part chunk₀ i₀ chunk i = part - i
 
--- src/output.rt:42:5
 loop-holds : tie.Need-loop-holds Inv-loop μ-loop
 loop-holds c = (omega arith, omega arith)
 
--- src/output.rt:43:25
 mul-put-four : tie.Need-mul-put-four Inv-loop μ-loop
 mul-put-four c = omega arith
 
--- src/output.rt:43:38
 add-put-four : tie.Need-add-put-four Inv-loop μ-loop
 add-put-four c = omega arith
 
--- src/output.rt:43:32
 mul-put-four-2 : tie.Need-mul-put-four-2 Inv-loop μ-loop
 mul-put-four-2 c = omega arith
 
--- src/output.rt:43:32
 shared-slice-read-put-four : tie.Need-shared-slice-read-put-four Inv-loop μ-loop
 shared-slice-read-put-four c = omega arith
 
--- src/output.rt:43:9
 put-four-requires : tie.Need-put-four-requires Inv-loop μ-loop
 put-four-requires c κs = search needs
 
--- src/output.rt:44:9
 add-i : tie.Need-add-i Inv-loop μ-loop
 add-i c = omega arith
 
--- src/output.rt:42:5
 loop-less : tie.Need-loop-less Inv-loop μ-loop
 loop-less c = omega arith
 
--- src/output.rt:42:5
 loop-again : tie.Need-loop-again Inv-loop μ-loop
 loop-again c = (omega arith, omega arith)
 
--- src/output.rt:37:1
 same-length : tie.Need-same-length Inv-loop μ-loop
 same-length c = omega arith
 
--- src/output.rt:37:1
 returns : tie.Need-returns Inv-loop μ-loop
 returns c = omega arith
 

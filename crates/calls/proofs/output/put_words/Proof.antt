@@ -20,63 +20,48 @@ Inv-loop words space₀ done₀ space done = (done ≤ length words) × (length 
 abbrev μ-loop : tie.MeasureT-loop
 μ-loop words space₀ done₀ space done = length words - done
 
--- src/output.rt:65:5
 put-length-requires : tie.Need-put-length-requires Inv-loop μ-loop
 put-length-requires c κs = search needs
 
--- src/output.rt:66:21
 buffer-requires : tie.Need-buffer-requires Inv-loop μ-loop
 buffer-requires c κs = search needs
 
--- src/output.rt:68:5
 loop-holds : tie.Need-loop-holds Inv-loop μ-loop
 loop-holds c = (omega arith, omega arith)
 
--- src/output.rt:69:26
 sub-part-of : tie.Need-sub-part-of Inv-loop μ-loop
 sub-part-of c = omega arith
 
--- src/output.rt:69:13
 part-of-requires : tie.Need-part-of-requires Inv-loop μ-loop
 part-of-requires c κs = search needs
 
--- src/output.rt:70:39
 slice-aggregate-fill-words : tie.Need-slice-aggregate-fill-words Inv-loop μ-loop
 slice-aggregate-fill-words c = omega arith
 
--- src/output.rt:70:9
 fill-words-requires : tie.Need-fill-words-requires Inv-loop μ-loop
 fill-words-requires c κs = (omega arith, omega arith)
 
--- src/output.rt:71:35
 mul-space : tie.Need-mul-space Inv-loop μ-loop
 mul-space c = omega arith
 
--- src/output.rt:71:26
 array-share-prefix-space : tie.Need-array-share-prefix-space Inv-loop μ-loop
 array-share-prefix-space c = omega arith
 
--- src/output.rt:71:26
 slice-aggregate-write-all : tie.Need-slice-aggregate-write-all Inv-loop μ-loop
 slice-aggregate-write-all c = rw length-take (omega arith)
 
--- src/output.rt:71:9
 write-all-requires : tie.Need-write-all-requires Inv-loop μ-loop
 write-all-requires c κs = search needs
 
--- src/output.rt:72:9
 add-done : tie.Need-add-done Inv-loop μ-loop
 add-done c = omega arith
 
--- src/output.rt:68:5
 loop-less : tie.Need-loop-less Inv-loop μ-loop
 loop-less c = omega arith
 
--- src/output.rt:68:5
 loop-again : tie.Need-loop-again Inv-loop μ-loop
 loop-again c = (omega arith, omega arith)
 
--- src/output.rt:64:1
 returns : tie.Need-returns Inv-loop μ-loop
 returns c = search needs
 

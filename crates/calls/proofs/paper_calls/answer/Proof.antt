@@ -7,47 +7,36 @@ use Rattle.calls.proofs.paper_calls.answer.Lts as lts
 use Rattle.calls.proofs.input.next_words.Reads as next-words-reads
 use Rattle.calls.proofs.paper_calls.put_answered.Reads as put-answered-reads
 
--- src/paper_calls.rt:95:37
 slice-aggregate-next-words : tie.Need-slice-aggregate-next-words
 slice-aggregate-next-words c = search needs
 
--- src/paper_calls.rt:95:9
 next-words-requires : tie.Need-next-words-requires
 next-words-requires c κs = tt
 
--- src/paper_calls.rt:96:40
 slice-aggregate-next-words-2 : tie.Need-slice-aggregate-next-words-2
 slice-aggregate-next-words-2 c = search needs
 
--- src/paper_calls.rt:96:9
 next-words-requires-2 : tie.Need-next-words-requires-2
 next-words-requires-2 c κs = tt
 
--- src/paper_calls.rt:98:9
 returns : tie.Need-returns
 returns c = tt
 
--- src/paper_calls.rt:102:28
 array-share-prefix-tables : tie.Need-array-share-prefix-tables
 array-share-prefix-tables c = search needs
 
--- src/paper_calls.rt:102:28
 slice-aggregate-put-answered : tie.Need-slice-aggregate-put-answered
 slice-aggregate-put-answered c = search (length-take-le, needs)
 
--- src/paper_calls.rt:102:46
 array-borrow-prefix-out : tie.Need-array-borrow-prefix-out
 array-borrow-prefix-out c = search needs
 
--- src/paper_calls.rt:102:46
 slice-aggregate-put-answered-2 : tie.Need-slice-aggregate-put-answered-2
 slice-aggregate-put-answered-2 c = search (length-take-le, needs)
 
--- src/paper_calls.rt:102:5
 put-answered-requires : tie.Need-put-answered-requires
 put-answered-requires c κs = tt
 
--- src/paper_calls.rt:92:1
 returns-2 : tie.Need-returns-2
 returns-2 c = tt
 

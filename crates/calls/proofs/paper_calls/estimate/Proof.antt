@@ -7,31 +7,24 @@ use Rattle.calls.proofs.paper_calls.estimate.Lts as lts
 use Rattle.calls.proofs.input.next_words.Reads as next-words-reads
 use Rattle.calls.proofs.paper_calls.put_estimated.Reads as put-estimated-reads
 
--- src/paper_calls.rt:114:37
 slice-aggregate-next-words : tie.Need-slice-aggregate-next-words
 slice-aggregate-next-words c = search needs
 
--- src/paper_calls.rt:114:9
 next-words-requires : tie.Need-next-words-requires
 next-words-requires c κs = tt
 
--- src/paper_calls.rt:116:9
 returns : tie.Need-returns
 returns c = tt
 
--- src/paper_calls.rt:119:38
 array-borrow-prefix-out : tie.Need-array-borrow-prefix-out
 array-borrow-prefix-out c = search needs
 
--- src/paper_calls.rt:119:38
 slice-aggregate-put-estimated : tie.Need-slice-aggregate-put-estimated
 slice-aggregate-put-estimated c = search (length-take-le, needs)
 
--- src/paper_calls.rt:119:5
 put-estimated-requires : tie.Need-put-estimated-requires
 put-estimated-requires c κs = tt
 
--- src/paper_calls.rt:112:1
 returns-2 : tie.Need-returns-2
 returns-2 c = tt
 

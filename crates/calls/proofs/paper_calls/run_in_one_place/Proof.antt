@@ -8,47 +8,36 @@ use Rattle.calls.proofs.input.next_bytes.Reads as next-bytes-reads
 use Rattle.calls.proofs.input.next_words.Reads as next-words-reads
 use Rattle.calls.proofs.paper_calls.put_run.Reads as put-run-reads
 
--- src/paper_calls.rt:75:37
 slice-aggregate-next-words : tie.Need-slice-aggregate-next-words
 slice-aggregate-next-words c = search needs
 
--- src/paper_calls.rt:75:9
 next-words-requires : tie.Need-next-words-requires
 next-words-requires c κs = tt
 
--- src/paper_calls.rt:76:40
 slice-aggregate-next-bytes : tie.Need-slice-aggregate-next-bytes
 slice-aggregate-next-bytes c = search needs
 
--- src/paper_calls.rt:76:9
 next-bytes-requires : tie.Need-next-bytes-requires
 next-bytes-requires c κs = tt
 
--- src/paper_calls.rt:78:9
 returns : tie.Need-returns
 returns c = tt
 
--- src/paper_calls.rt:82:32
 array-share-prefix-tables : tie.Need-array-share-prefix-tables
 array-share-prefix-tables c = search needs
 
--- src/paper_calls.rt:82:32
 slice-aggregate-put-run : tie.Need-slice-aggregate-put-run
 slice-aggregate-put-run c = search (length-take-le, needs)
 
--- src/paper_calls.rt:82:50
 array-borrow-prefix-marks : tie.Need-array-borrow-prefix-marks
 array-borrow-prefix-marks c = search needs
 
--- src/paper_calls.rt:82:50
 slice-aggregate-put-run-2 : tie.Need-slice-aggregate-put-run-2
 slice-aggregate-put-run-2 c = search (length-take-le, needs)
 
--- src/paper_calls.rt:82:5
 put-run-requires : tie.Need-put-run-requires
 put-run-requires c κs = tt
 
--- src/paper_calls.rt:72:1
 returns-2 : tie.Need-returns-2
 returns-2 c = tt
 

@@ -8,7 +8,7 @@ use Rattle.contents.proofs.kept.kept_columns.Tie as tie
 use Rattle.contents.proofs.kept.kept_columns.Reads as reads
 use Rattle.contents.proofs.kept.kept_columns.Lts as lts
 use Rattle.contents.proofs.parts.columns_in.Reads as columns-in-reads
-use Rattle.contents.proofs.kept.is_kept.Reads as is-kept-reads
+use Rattle.contents.proofs.kept.is_kept_column.Reads as is-kept-column-reads
 
 abbrev Inv-loop : tie.InvT-loop
 Inv-loop envelope relation end numbers₀ count₀ column₀ numbers count column = Keeping envelope relation end column count numbers
@@ -25,8 +25,8 @@ loop-holds c = search (keeping-start, needs)
 cast-loop : tie.Need-cast-loop Inv-loop μ-loop
 cast-loop c = omega arith
 
-is-kept-requires : tie.Need-is-kept-requires Inv-loop μ-loop
-is-kept-requires c κs = search needs
+is-kept-column-requires : tie.Need-is-kept-column-requires Inv-loop μ-loop
+is-kept-column-requires c κs = search needs
 
 cast-slot : tie.Need-cast-slot Inv-loop μ-loop
 cast-slot c = omega arith
@@ -58,7 +58,7 @@ kept-columns-spec =
     columns-in-requires
     loop-holds
     cast-loop
-    is-kept-requires
+    is-kept-column-requires
     cast-slot
     array-write-numbers
     add-count

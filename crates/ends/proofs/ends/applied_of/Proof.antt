@@ -7,19 +7,15 @@ use Rattle.ends.proofs.ends.applied_of.Tie as tie
 use Rattle.ends.proofs.ends.applied_of.Reads as reads
 use Rattle.ends.proofs.ends.applied_of.Lts as lts
 
--- src/ends.rt:152:9
 returns : tie.Need-returns
 returns c = element-past (c .before .args .t1) (c .before .args .relation) _ _ (omega arith) refl
 
--- src/ends.rt:154:5
 mul-result : tie.Need-mul-result
 mul-result c = search needs
 
--- src/ends.rt:154:5
 array-read-result : tie.Need-array-read-result
 array-read-result c = search needs
 
--- src/ends.rt:148:1
 returns-2 : tie.Need-returns-2
 returns-2 c = search needs
 

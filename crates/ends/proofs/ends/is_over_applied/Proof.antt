@@ -17,55 +17,42 @@ Inv-loop program relations applied end n relation₀ relation = Looking someFrom
 abbrev μ-loop : tie.MeasureT-loop
 μ-loop program relations applied end n relation₀ relation = end - relation
 
--- src/ends.rt:80:9
 in-use-requires : tie.Need-in-use-requires Inv-loop μ-loop
 in-use-requires c κs = search needs
 
--- src/ends.rt:81:13
 cast-n : tie.Need-cast-n Inv-loop μ-loop
 cast-n c = omega arith
 
--- src/ends.rt:83:5
 loop-holds : tie.Need-loop-holds Inv-loop μ-loop
 loop-holds c = search (looking-start, needs)
 
--- src/ends.rt:83:12
 cast-loop : tie.Need-cast-loop Inv-loop μ-loop
 cast-loop c = omega arith
 
--- src/ends.rt:84:12
 steps-before-requires : tie.Need-steps-before-requires Inv-loop μ-loop
 steps-before-requires c κs = search needs
 
--- src/ends.rt:84:70
 cast-if1 : tie.Need-cast-if1 Inv-loop μ-loop
 cast-if1 c = omega arith
 
--- src/ends.rt:84:62
 mul-if1 : tie.Need-mul-if1 Inv-loop μ-loop
 mul-if1 c = omega arith
 
--- src/ends.rt:84:62
 array-read-if1 : tie.Need-array-read-if1 Inv-loop μ-loop
 array-read-if1 c = omega arith
 
--- src/ends.rt:85:13
 returns : tie.Need-returns Inv-loop μ-loop
 returns c = search (over-found, needs)
 
--- src/ends.rt:87:9
 add-relation : tie.Need-add-relation Inv-loop μ-loop
 add-relation c = omega arith
 
--- src/ends.rt:83:5
 loop-less : tie.Need-loop-less Inv-loop μ-loop
 loop-less c = omega arith
 
--- src/ends.rt:83:5
 loop-again : tie.Need-loop-again Inv-loop μ-loop
 loop-again c = over-passed _ _ _ _ (c .before .before .before .loop .inv) (c .before .before .loop-test .taken) _ (c .before .steps-before .ensures) (c .if1 .left)
 
--- src/ends.rt:77:1
 returns-2 : tie.Need-returns-2 Inv-loop μ-loop
 returns-2 c = search (over-none, needs)
 

@@ -8,39 +8,30 @@ use Rattle.papers.proofs.checks.check_papers.Reads as check-papers-reads
 use Rattle.ends.proofs.ends.is_over_applied.Reads as is-over-applied-reads
 use Rattle.papers.proofs.checks.refused_papers.Reads as refused-papers-reads
 
--- src/ends.rt:98:9
 check-papers-requires : tie.Need-check-papers-requires
 check-papers-requires c κs = search needs
 
--- src/ends.rt:101:28
 enum-known-verdict : tie.Need-enum-known-verdict
 enum-known-verdict c = search needs
 
--- src/ends.rt:101:50
 refused-papers-requires : tie.Need-refused-papers-requires
 refused-papers-requires c κs = search needs
 
--- src/ends.rt:103:17
 enum-told : tie.Need-enum-told
 enum-told c = search needs
 
--- src/ends.rt:107:16
 is-over-applied-requires : tie.Need-is-over-applied-requires
 is-over-applied-requires c κs = search needs
 
--- src/ends.rt:108:17
 refused-papers-requires-2 : tie.Need-refused-papers-requires-2
 refused-papers-requires-2 c κs = search needs
 
--- src/ends.rt:108:17
 returns : tie.Need-returns
 returns c = search (sound-over, needs)
 
--- src/ends.rt:93:1
 returns-2 : tie.Need-returns-2
 returns-2 c = search (sound-refused, needs)
 
--- src/ends.rt:93:1
 returns-3 : tie.Need-returns-3
 returns-3 c = search (sound-good, needs)
 

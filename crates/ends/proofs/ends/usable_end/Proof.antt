@@ -8,47 +8,36 @@ use Rattle.tables.proofs.shape.judge_marks.Reads as judge-marks-reads
 use Rattle.papers.proofs.checks.refused_papers.Reads as refused-papers-reads
 use Rattle.ends.proofs.ends.sound_end.Reads as sound-end-reads
 
--- src/ends.rt:131:9
 sound-end-requires : tie.Need-sound-end-requires
 sound-end-requires c κs = search needs
 
--- src/ends.rt:134:28
 enum-known-verdict : tie.Need-enum-known-verdict
 enum-known-verdict c = search needs
 
--- src/ends.rt:134:50
 refused-papers-requires : tie.Need-refused-papers-requires
 refused-papers-requires c κs = search needs
 
--- src/ends.rt:136:17
 enum-told : tie.Need-enum-told
 enum-told c = search needs
 
--- src/ends.rt:138:17
 judge-marks-requires : tie.Need-judge-marks-requires
 judge-marks-requires c κs = search needs
 
--- src/ends.rt:140:36
 enum-known-found : tie.Need-enum-known-found
 enum-known-found c = search needs
 
--- src/ends.rt:140:58
 refused-papers-requires-2 : tie.Need-refused-papers-requires-2
 refused-papers-requires-2 c κs = search needs
 
--- src/ends.rt:141:35
 enum-told-2 : tie.Need-enum-told-2
 enum-told-2 c = search needs
 
--- src/ends.rt:128:1
 returns : tie.Need-returns
 returns c = search (usable-marks, usable-good, usable-refused, needs)
 
--- src/ends.rt:128:1
 returns-2 : tie.Need-returns-2
 returns-2 c = search (usable-marks, usable-good, usable-refused, needs)
 
--- src/ends.rt:128:1
 returns-3 : tie.Need-returns-3
 returns-3 c = search (usable-marks, usable-good, usable-refused, needs)
 

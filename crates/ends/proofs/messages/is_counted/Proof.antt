@@ -7,31 +7,24 @@ use Rattle.ends.proofs.messages.is_counted.Tie as tie
 use Rattle.ends.proofs.messages.is_counted.Reads as reads
 use Rattle.ends.proofs.messages.is_counted.Lts as lts
 
--- src/messages.rt:39:9
 returns : tie.Need-returns
 returns c = search (counted-short, needs)
 
--- src/messages.rt:41:17
 shared-slice-read-count : tie.Need-shared-slice-read-count
 shared-slice-read-count c = search needs
 
--- src/messages.rt:41:17
 cast-count : tie.Need-cast-count
 cast-count c = omega (arith, c .shared-slice-known .given 2)
 
--- src/messages.rt:43:9
 returns-2 : tie.Need-returns-2
 returns-2 c = search (counted-over, needs)
 
--- src/messages.rt:45:26
 mul-result : tie.Need-mul-result
 mul-result c = omega (arith, product-small (getD (c .before .before .before .args .message .now) 2 0) (c .before .before .before .args .each) (omega arith) (omega arith))
 
--- src/messages.rt:45:22
 add-result : tie.Need-add-result
 add-result c = omega (arith, product-small (getD (c .before .before .before .args .message .now) 2 0) (c .before .before .before .args .each) (omega arith) (omega arith))
 
--- src/messages.rt:35:1
 returns-3 : tie.Need-returns-3
 returns-3 c = search (counted-whole, needs)
 

@@ -5,23 +5,18 @@ use Rattle.ends.proofs.messages.speaks_of.Tie as tie
 use Rattle.ends.proofs.messages.speaks_of.Reads as reads
 use Rattle.ends.proofs.messages.speaks_of.Lts as lts
 
--- src/messages.rt:22:9
 returns : tie.Need-returns
 returns c = search (speaks-step, needs)
 
--- src/messages.rt:25:9
 returns-2 : tie.Need-returns-2
 returns-2 c = search (speaks-between, needs)
 
--- src/messages.rt:29:28
 cast-t8 : tie.Need-cast-t8
 cast-t8 c = search needs
 
--- src/messages.rt:29:9
 returns-3 : tie.Need-returns-3
 returns-3 c = search (speaks-rows, needs)
 
--- src/messages.rt:18:1
 returns-4 : tie.Need-returns-4
 returns-4 c = search (speaks-past, needs)
 

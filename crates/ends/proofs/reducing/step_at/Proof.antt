@@ -7,27 +7,21 @@ use Rattle.ends.proofs.reducing.step_at.Lts as lts
 use Rattle.entries.proofs.places.no_place.Reads as no-place-reads
 use Rattle.ground.proofs.used.in_use.Reads as in-use-reads
 
--- src/reducing.rt:19:12
 in-use-requires : tie.Need-in-use-requires
 in-use-requires c κs = search needs
 
--- src/reducing.rt:20:20
 mul-step : tie.Need-mul-step
 mul-step c = search needs
 
--- src/reducing.rt:20:20
 array-copy-out-step : tie.Need-array-copy-out-step
 array-copy-out-step c = search needs
 
--- src/reducing.rt:23:13
 no-place-requires : tie.Need-no-place-requires
 no-place-requires c κs = search needs
 
--- src/reducing.rt:16:1
 returns : tie.Need-returns
 returns c = search (step-inside, needs)
 
--- src/reducing.rt:16:1
 returns-2 : tie.Need-returns-2
 returns-2 c = search (step-outside, needs)
 

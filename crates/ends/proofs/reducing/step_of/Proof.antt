@@ -6,11 +6,9 @@ use Rattle.ends.proofs.reducing.step_of.Reads as reads
 use Rattle.ends.proofs.reducing.step_of.Lts as lts
 use Rattle.ends.proofs.reducing.step_at.Reads as step-at-reads
 
--- src/reducing.rt:36:5
 step-at-requires : tie.Need-step-at-requires
 step-at-requires c κs = search needs
 
--- src/reducing.rt:32:1
 returns : tie.Need-returns
 returns c = search (step-of, needs)
 

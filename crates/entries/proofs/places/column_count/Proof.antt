@@ -1,5 +1,5 @@
 use native.Mathlib.Omega.{arith}
-use Rattle.entries.proofs.PlaceLaws.{no-columns}
+use Rattle.entries.proofs.PlaceCodeLaws.{no-columns}
 use borrow.Author.Needs.{needs}
 use Rattle.entries.proofs.places.column_count.Statement.{statement}
 use Rattle.entries.proofs.places.column_count.Tie as tie

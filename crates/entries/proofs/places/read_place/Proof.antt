@@ -1,5 +1,5 @@
 use Rattle.fields.proofs.NumberLaws.{read-below}
-use Rattle.entries.proofs.PlaceLaws.{place-1, place-2, place-3, column-few}
+use Rattle.entries.proofs.PlaceCodeLaws.{place-1, place-2, place-3, column-few}
 use native.Mathlib.Omega.{arith}
 use borrow.Author.Needs.{needs}
 use Rattle.entries.proofs.places.read_place.Statement.{statement}

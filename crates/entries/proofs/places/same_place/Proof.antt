@@ -1,5 +1,5 @@
 use borrow.Author.Needs.{needs}
-use Rattle.entries.proofs.PlaceLaws.{same-relation, other-relation}
+use Rattle.entries.proofs.PlaceCodeLaws.{same-relation, other-relation}
 use Rattle.entries.proofs.places.same_place.Statement.{statement}
 use Rattle.entries.proofs.places.same_place.Tie as tie
 use Rattle.entries.proofs.places.same_place.Reads as reads

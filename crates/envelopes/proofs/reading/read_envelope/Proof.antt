@@ -1,4 +1,4 @@
-use Rattle.fields.proofs.HeadLaws.{read-version}
+use Rattle.fields.proofs.HeadCodeLaws.{read-version}
 use Rattle.envelopes.proofs.ReadingLaws.{envelope-bad, envelope-good}
 use native.Mathlib.Omega.{arith}
 use borrow.Author.Needs.{needs}

@@ -1,5 +1,5 @@
 use Rattle.contents.specs.Parts.{withTargets}
-use Rattle.entries.proofs.PlaceLaws.{place-good, place-bad}
+use Rattle.entries.proofs.PlaceCodeLaws.{place-good, place-bad}
 use Rattle.entries.specs.Places.{noPlace, placeAt}
 use Prim.Native.Nat.{_-_}
 use Rattle.ground.proofs.FillingLaws.{Filling, filling-more}

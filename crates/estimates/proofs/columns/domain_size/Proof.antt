@@ -7,31 +7,24 @@ use Rattle.estimates.proofs.columns.domain_size.Lts as lts
 use Rattle.ground.proofs.used.in_use.Reads as in-use-reads
 use Rattle.estimates.proofs.columns.column_of.Reads as column-of-reads
 
--- src/profiles.rt:38:9
 column-of-requires : tie.Need-column-of-requires
 column-of-requires c κs = search needs
 
--- src/profiles.rt:39:13
 cast-i : tie.Need-cast-i
 cast-i c = search needs
 
--- src/profiles.rt:40:8
 in-use-requires : tie.Need-in-use-requires
 in-use-requires c κs = search needs
 
--- src/profiles.rt:41:9
 returns : tie.Need-returns
 returns c = search (size-none, needs)
 
--- src/profiles.rt:43:5
 mul-result : tie.Need-mul-result
 mul-result c = search needs
 
--- src/profiles.rt:43:5
 array-read-result : tie.Need-array-read-result
 array-read-result c = search needs
 
--- src/profiles.rt:34:1
 returns-2 : tie.Need-returns-2
 returns-2 c = search (size-some, needs)
 

@@ -15,47 +15,36 @@ Inv-loop envelope relation numbers end total₀ i₀ total i = Widening envelope
 abbrev μ-loop : tie.MeasureT-loop
 μ-loop envelope relation numbers end total₀ i₀ total i = end - i
 
--- src/profiles.rt:49:9
 kept-columns-requires : tie.Need-kept-columns-requires Inv-loop μ-loop
 kept-columns-requires c κs = search needs
 
--- src/profiles.rt:51:15
 cast-end : tie.Need-cast-end Inv-loop μ-loop
 cast-end c = omega arith
 
--- src/profiles.rt:54:5
 loop-holds : tie.Need-loop-holds Inv-loop μ-loop
 loop-holds c = search (widening-start, needs)
 
--- src/profiles.rt:57:21
 array-read-t13 : tie.Need-array-read-t13 Inv-loop μ-loop
 array-read-t13 c = omega arith
 
--- src/profiles.rt:59:13
 column-of-requires : tie.Need-column-of-requires Inv-loop μ-loop
 column-of-requires c κs = search needs
 
--- src/profiles.rt:60:18
 cast-total : tie.Need-cast-total Inv-loop μ-loop
 cast-total c = omega arith
 
--- src/profiles.rt:60:9
 add-total : tie.Need-add-total Inv-loop μ-loop
 add-total c = omega arith
 
--- src/profiles.rt:61:9
 add-i : tie.Need-add-i Inv-loop μ-loop
 add-i c = omega arith
 
--- src/profiles.rt:54:5
 loop-less : tie.Need-loop-less Inv-loop μ-loop
 loop-less c = omega arith
 
--- src/profiles.rt:54:5
 loop-again : tie.Need-loop-again Inv-loop μ-loop
 loop-again c = search (widening-more, needs)
 
--- src/profiles.rt:46:1
 returns : tie.Need-returns Inv-loop μ-loop
 returns c = search (widening-done, needs)
 

@@ -15,39 +15,30 @@ Inv-loop costs envelope profile site end total₀ relation₀ total relation = A
 abbrev μ-loop : tie.MeasureT-loop
 μ-loop costs envelope profile site end total₀ relation₀ total relation = end - relation
 
--- src/costs.rt:89:9
 in-use-requires : tie.Need-in-use-requires Inv-loop μ-loop
 in-use-requires c κs = search needs
 
--- src/costs.rt:92:5
 loop-holds : tie.Need-loop-holds Inv-loop μ-loop
 loop-holds c = search (assembling-start, needs)
 
--- src/costs.rt:92:12
 cast-loop : tie.Need-cast-loop Inv-loop μ-loop
 cast-loop c = omega arith
 
--- src/costs.rt:93:13
 sent-requires : tie.Need-sent-requires Inv-loop μ-loop
 sent-requires c κs = search needs
 
--- src/costs.rt:94:9
 add-total : tie.Need-add-total Inv-loop μ-loop
 add-total c = let a = c .before .before .before .before .args in omega (arith, sent-few (a .costs) (a .envelope) (a .profile) (c .before .before .before .before .pre) (a .site) _ _ (c .sent .ensures))
 
--- src/costs.rt:95:9
 add-relation : tie.Need-add-relation Inv-loop μ-loop
 add-relation c = omega arith
 
--- src/costs.rt:92:5
 loop-less : tie.Need-loop-less Inv-loop μ-loop
 loop-less c = omega arith
 
--- src/costs.rt:92:5
 loop-again : tie.Need-loop-again Inv-loop μ-loop
 loop-again c = search (assembling-more, needs)
 
--- src/costs.rt:85:1
 returns : tie.Need-returns Inv-loop μ-loop
 returns c = search (assembling-done, needs)
 

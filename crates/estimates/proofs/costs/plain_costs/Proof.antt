@@ -1,5 +1,5 @@
 use Rattle.estimates.proofs.CostCodeLaws.{plainPrice, plain-whole}
-use Rattle.estimates.proofs.TableCodeLaws.{Table, table-start, table-more}
+use Rattle.ground.proofs.NumberingLaws.{Numbering, numbering-start, numbering-more}
 use Prim.Native.Nat.{_-_}
 use borrow.Author.Needs.{needs}
 use native.Mathlib.Omega.{arith}
@@ -10,40 +10,32 @@ use Rattle.estimates.proofs.costs.plain_costs.Lts as lts
 use Rattle.estimates.proofs.costs.plain_price.Reads as plain-price-reads
 
 abbrev Inv-loop : tie.InvT-loop
-Inv-loop prices₀ k₀ prices k = Table 64 0 plainPrice k prices
+Inv-loop prices₀ k₀ prices k = Numbering 64 0 plainPrice k prices
 
 abbrev μ-loop : tie.MeasureT-loop
 μ-loop prices₀ k₀ prices k = 64 - k
 
--- src/costs.rt:31:5
 loop-holds : tie.Need-loop-holds Inv-loop μ-loop
-loop-holds c = search (table-start, needs)
+loop-holds c = search (numbering-start, needs)
 
--- src/costs.rt:32:21
 plain-price-requires : tie.Need-plain-price-requires Inv-loop μ-loop
 plain-price-requires c κs = search needs
 
--- src/costs.rt:32:9
 mul-prices : tie.Need-mul-prices Inv-loop μ-loop
 mul-prices c = omega arith
 
--- src/costs.rt:32:9
 array-write-prices : tie.Need-array-write-prices Inv-loop μ-loop
 array-write-prices c = omega arith
 
--- src/costs.rt:33:9
 add-k : tie.Need-add-k Inv-loop μ-loop
 add-k c = omega arith
 
--- src/costs.rt:31:5
 loop-less : tie.Need-loop-less Inv-loop μ-loop
 loop-less c = omega arith
 
--- src/costs.rt:31:5
 loop-again : tie.Need-loop-again Inv-loop μ-loop
-loop-again c = search (table-more, needs)
+loop-again c = search (numbering-more, needs)
 
--- src/costs.rt:26:1
 returns : tie.Need-returns Inv-loop μ-loop
 returns c = search (plain-whole, needs)
 

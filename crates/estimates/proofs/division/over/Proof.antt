@@ -5,15 +5,12 @@ use Rattle.estimates.proofs.division.over.Tie as tie
 use Rattle.estimates.proofs.division.over.Reads as reads
 use Rattle.estimates.proofs.division.over.Lts as lts
 
--- src/division.rt:11:28
 div-result : tie.Need-div-result
 div-result c = search needs
 
--- src/division.rt:8:1
 returns : tie.Need-returns
 returns c = search (over-nothing, needs)
 
--- src/division.rt:8:1
 returns-2 : tie.Need-returns-2
 returns-2 c = search (over-number, needs)
 

@@ -6,31 +6,24 @@ use Rattle.estimates.proofs.division.short.Reads as reads
 use Rattle.estimates.proofs.division.short.Lts as lts
 use Rattle.estimates.proofs.division.over.Reads as over-reads
 
--- src/division.rt:19:8
 mul-if1 : tie.Need-mul-if1
 mul-if1 c = search needs
 
--- src/division.rt:20:9
 returns : tie.Need-returns
 returns c = search (Y-rows-left, needs)
 
--- src/division.rt:22:12
 mul-if2 : tie.Need-mul-if2
 mul-if2 c = search needs
 
--- src/division.rt:23:21
 add-over : tie.Need-add-over
 add-over c = search needs
 
--- src/division.rt:23:9
 over-requires : tie.Need-over-requires
 over-requires c κs = search needs
 
--- src/division.rt:23:9
 returns-2 : tie.Need-returns-2
 returns-2 c = search (Y-third, needs)
 
--- src/division.rt:15:1
 returns-3 : tie.Need-returns-3
 returns-3 c = search (Y-all-left, needs)
 

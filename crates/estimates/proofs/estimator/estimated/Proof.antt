@@ -20,67 +20,51 @@ Inv-loop costs envelope program steps end lines₀ now₀ spent₀ i₀ lines no
 abbrev μ-loop : tie.MeasureT-loop
 μ-loop costs envelope program steps end lines₀ now₀ spent₀ i₀ lines now spent i = end - i
 
--- src/estimator.rt:61:15
 cast-end : tie.Need-cast-end Inv-loop μ-loop
 cast-end c = omega arith
 
--- src/estimator.rt:62:22
 no-line-requires : tie.Need-no-line-requires Inv-loop μ-loop
 no-line-requires c κs = search needs
 
--- src/estimator.rt:66:5
 loop-holds : tie.Need-loop-holds Inv-loop μ-loop
 loop-holds c = search (estimating-start, needs)
 
--- src/estimator.rt:67:20
 mul-step : tie.Need-mul-step Inv-loop μ-loop
 mul-step c = omega arith
 
--- src/estimator.rt:67:20
 array-copy-out-step : tie.Need-array-copy-out-step Inv-loop μ-loop
 array-copy-out-step c = omega arith
 
--- src/estimator.rt:68:13
 line-of-requires : tie.Need-line-of-requires Inv-loop μ-loop
 line-of-requires c κs = line-ready (c .before .before .before .before .before .before .args .costs) (c .before .before .before .before .before .before .args .envelope) (c .before .before .before .before .before .before .args .local) (c .before .before .before .before .before .before .pre .0) _ _ _ _ _ _ (c .before .before .loop .inv) (c .before .loop-test .taken)
 
--- src/estimator.rt:69:9
 mul-lines : tie.Need-mul-lines Inv-loop μ-loop
 mul-lines c = omega arith
 
--- src/estimator.rt:69:9
 array-set-from-lines : tie.Need-array-set-from-lines Inv-loop μ-loop
 array-set-from-lines c = omega arith
 
--- src/estimator.rt:70:9
 add-spent : tie.Need-add-spent Inv-loop μ-loop
 add-spent c = omega (arith, cost-few (c .before .before .before .before .before .before .before .before .args .costs) (c .before .before .before .before .before .before .before .before .args .envelope) (c .before .before .before .before .before .before .before .before .args .local) (c .before .before .before .before .before .before .before .before .pre .0) _ _ _ _ _ (c .before .before .before .before .loop .inv .spending) (c .before .before .before .loop-test .taken) _ (ap (λ (x : Line). x .cost) (c .before .line-of .ensures)))
 
--- src/estimator.rt:71:9
 after-step-requires : tie.Need-after-step-requires Inv-loop μ-loop
 after-step-requires c κs = search (rows-low, counts-low, step-few, needs)
 
--- src/estimator.rt:72:9
 add-i : tie.Need-add-i Inv-loop μ-loop
 add-i c = omega arith
 
--- src/estimator.rt:66:5
 loop-less : tie.Need-loop-less Inv-loop μ-loop
 loop-less c = omega arith
 
--- src/estimator.rt:66:5
 loop-again : tie.Need-loop-again Inv-loop μ-loop
 loop-again c = search (estimating-more, needs)
 
--- src/estimator.rt:74:9
 assembly-at-requires : tie.Need-assembly-at-requires Inv-loop μ-loop
 assembly-at-requires c κs = now-bounded (c .before .before .before .before .before .args .costs) (c .before .before .before .before .before .args .envelope) (c .before .before .before .before .before .args .local) (c .before .before .before .before .before .pre .0) _ _ _ _ _ _ (c .before .loop .inv)
 
--- src/estimator.rt:80:16
 add-t24 : tie.Need-add-t24 Inv-loop μ-loop
 add-t24 c = omega (arith, assembly-small (c .before .before .before .before .before .before .args .costs) (c .before .before .before .before .before .before .args .envelope) (c .before .before .before .before .before .before .args .local) (c .before .before .before .before .before .before .pre .0) _ _ _ _ _ _ (c .before .before .loop .inv) _ _ (c .assembly-at .ensures))
 
--- src/estimator.rt:51:1
 returns : tie.Need-returns Inv-loop μ-loop
 returns c = search (estimated-through, needs)
 

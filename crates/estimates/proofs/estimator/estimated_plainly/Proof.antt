@@ -8,19 +8,15 @@ use Rattle.estimates.proofs.costs.plain_costs.Reads as plain-costs-read
 use Rattle.estimates.proofs.estimator.estimated.Reads as estimated-reads
 use Rattle.estimates.proofs.locals.local_profile.Reads as local-profile-reads
 
--- src/estimator.rt:101:9
 plain-costs-requires : tie.Need-plain-costs-requires
 plain-costs-requires c κs = search needs
 
--- src/estimator.rt:102:9
 local-profile-requires : tie.Need-local-profile-requires
 local-profile-requires c κs = search needs
 
--- src/estimator.rt:103:5
 estimated-requires : tie.Need-estimated-requires
 estimated-requires c κs = search (plain-ready, needs)
 
--- src/estimator.rt:97:1
 returns : tie.Need-returns
 returns c = search (plain-estimate, needs)
 

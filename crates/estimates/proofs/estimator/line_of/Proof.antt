@@ -7,15 +7,12 @@ use Rattle.estimates.proofs.estimator.line_of.Lts as lts
 use Rattle.estimates.proofs.costs.benefit.Reads as benefit-reads
 use Rattle.estimates.proofs.costs.step_cost.Reads as step-cost-reads
 
--- src/estimator.rt:41:9
 benefit-requires : tie.Need-benefit-requires
 benefit-requires c κs = search needs
 
--- src/estimator.rt:42:9
 step-cost-requires : tie.Need-step-cost-requires
 step-cost-requires c κs = search needs
 
--- src/estimator.rt:37:1
 returns : tie.Need-returns
 returns c = search (line-is, needs)
 

@@ -6,11 +6,9 @@ use Rattle.estimates.proofs.estimator.refused.Reads as reads
 use Rattle.estimates.proofs.estimator.refused.Lts as lts
 use Rattle.estimates.proofs.lines.no_line.Reads as no-line-reads
 
--- src/estimator.rt:90:17
 no-line-requires : tie.Need-no-line-requires
 no-line-requires c κs = search needs
 
--- src/estimator.rt:84:1
 returns : tie.Need-returns
 returns c = search (refused-is, needs)
 

@@ -5,11 +5,9 @@ use Rattle.estimates.proofs.lines.no_line.Reads as reads
 use Rattle.estimates.proofs.lines.no_line.Lts as lts
 use Rattle.papers.proofs.programs.no_step.Reads as no-step-reads
 
--- src/estimator.rt:23:9
 no-step-requires : tie.Need-no-step-requires
 no-step-requires c κs = search needs
 
--- src/estimator.rt:20:1
 returns : tie.Need-returns
 returns c = rw (c .no-step .ensures)
 

@@ -15,43 +15,33 @@ Inv-loop relation all end now₀ i₀ now i = Applying now₀ relation all end i
 abbrev μ-loop : tie.MeasureT-loop
 μ-loop relation all end now₀ i₀ now i = end - i
 
--- src/locals.rt:19:9
 selections-by-requires : tie.Need-selections-by-requires Inv-loop μ-loop
 selections-by-requires c κs = search needs
 
--- src/locals.rt:21:15
 cast-end : tie.Need-cast-end Inv-loop μ-loop
 cast-end c = omega arith
 
--- src/locals.rt:24:5
 loop-holds : tie.Need-loop-holds Inv-loop μ-loop
 loop-holds c = search (applying-start, labelled-few, needs)
 
--- src/locals.rt:25:25
 mul-selection : tie.Need-mul-selection Inv-loop μ-loop
 mul-selection c = omega arith
 
--- src/locals.rt:25:25
 array-copy-out-selection : tie.Need-array-copy-out-selection Inv-loop μ-loop
 array-copy-out-selection c = omega arith
 
--- src/locals.rt:30:9
 after-selection-requires : tie.Need-after-selection-requires Inv-loop μ-loop
 after-selection-requires c κs = search needs
 
--- src/locals.rt:31:9
 add-i : tie.Need-add-i Inv-loop μ-loop
 add-i c = omega arith
 
--- src/locals.rt:24:5
 loop-less : tie.Need-loop-less Inv-loop μ-loop
 loop-less c = omega arith
 
--- src/locals.rt:24:5
 loop-again : tie.Need-loop-again Inv-loop μ-loop
 loop-again c = search (applying-more, needs)
 
--- src/locals.rt:15:1
 returns : tie.Need-returns Inv-loop μ-loop
 returns c = search (applying-done, needs)
 

@@ -17,43 +17,33 @@ Inv-loop envelope labels end now₀ relation₀ now relation = Localizing envelo
 abbrev μ-loop : tie.MeasureT-loop
 μ-loop envelope labels end now₀ relation₀ now relation = end - relation
 
--- src/locals.rt:41:9
 labels-of-requires : tie.Need-labels-of-requires Inv-loop μ-loop
 labels-of-requires c κs = search needs
 
--- src/locals.rt:42:9
 in-use-requires : tie.Need-in-use-requires Inv-loop μ-loop
 in-use-requires c κs = search needs
 
--- src/locals.rt:43:9
 given-requires : tie.Need-given-requires Inv-loop μ-loop
 given-requires c κs = search needs
 
--- src/locals.rt:45:5
 loop-holds : tie.Need-loop-holds Inv-loop μ-loop
 loop-holds c = search (localizing-start, needs)
 
--- src/locals.rt:45:12
 cast-loop : tie.Need-cast-loop Inv-loop μ-loop
 cast-loop c = omega arith
 
--- src/locals.rt:46:9
 after-selections-requires : tie.Need-after-selections-requires Inv-loop μ-loop
 after-selections-requires c κs = search needs
 
--- src/locals.rt:47:9
 add-relation : tie.Need-add-relation Inv-loop μ-loop
 add-relation c = omega arith
 
--- src/locals.rt:45:5
 loop-less : tie.Need-loop-less Inv-loop μ-loop
 loop-less c = omega arith
 
--- src/locals.rt:45:5
 loop-again : tie.Need-loop-again Inv-loop μ-loop
 loop-again c = search (localizing-more, needs)
 
--- src/locals.rt:37:1
 returns : tie.Need-returns Inv-loop μ-loop
 returns c = search (localizing-done, needs)
 

@@ -1,5 +1,5 @@
 use Rattle.estimates.proofs.ProfileCodeLaws.{countIn, counts-given}
-use Rattle.estimates.proofs.TableCodeLaws.{Table, table-start, table-more}
+use Rattle.ground.proofs.NumberingLaws.{Numbering, numbering-start, numbering-more}
 use Prim.Native.Nat.{_-_}
 use borrow.Author.Needs.{needs}
 use native.Mathlib.Omega.{arith}
@@ -10,40 +10,32 @@ use Rattle.estimates.proofs.profiles.all_counts.Lts as lts
 use Rattle.estimates.proofs.profiles.given_count.Reads as given-count-reads
 
 abbrev Inv-loop : tie.InvT-loop
-Inv-loop envelope out₀ k₀ out k = Table 64 0 (countIn envelope) k out
+Inv-loop envelope out₀ k₀ out k = Numbering 64 0 (countIn envelope) k out
 
 abbrev μ-loop : tie.MeasureT-loop
 μ-loop envelope out₀ k₀ out k = 64 - k
 
--- src/profiles.rt:141:5
 loop-holds : tie.Need-loop-holds Inv-loop μ-loop
-loop-holds c = search (table-start, needs)
+loop-holds c = search (numbering-start, needs)
 
--- src/profiles.rt:142:18
 given-count-requires : tie.Need-given-count-requires Inv-loop μ-loop
 given-count-requires c κs = search needs
 
--- src/profiles.rt:142:9
 mul-out : tie.Need-mul-out Inv-loop μ-loop
 mul-out c = omega arith
 
--- src/profiles.rt:142:9
 array-write-out : tie.Need-array-write-out Inv-loop μ-loop
 array-write-out c = omega arith
 
--- src/profiles.rt:143:9
 add-k : tie.Need-add-k Inv-loop μ-loop
 add-k c = omega arith
 
--- src/profiles.rt:141:5
 loop-less : tie.Need-loop-less Inv-loop μ-loop
 loop-less c = omega arith
 
--- src/profiles.rt:141:5
 loop-again : tie.Need-loop-again Inv-loop μ-loop
-loop-again c = search (table-more, needs)
+loop-again c = search (numbering-more, needs)
 
--- src/profiles.rt:136:1
 returns : tie.Need-returns Inv-loop μ-loop
 returns c = search (counts-given, needs)
 

@@ -1,5 +1,5 @@
 use Rattle.estimates.proofs.ProfileCodeLaws.{rowsIn, rows-given}
-use Rattle.estimates.proofs.TableCodeLaws.{Table, table-start, table-more}
+use Rattle.ground.proofs.NumberingLaws.{Numbering, numbering-start, numbering-more}
 use Prim.Native.Nat.{_-_}
 use borrow.Author.Needs.{needs}
 use native.Mathlib.Omega.{arith}
@@ -10,44 +10,35 @@ use Rattle.estimates.proofs.profiles.all_rows.Lts as lts
 use Rattle.estimates.proofs.profiles.given_rows.Reads as given-rows-reads
 
 abbrev Inv-loop : tie.InvT-loop
-Inv-loop envelope out₀ relation₀ out relation = Table 8 0 (rowsIn envelope) relation out
+Inv-loop envelope out₀ relation₀ out relation = Numbering 8 0 (rowsIn envelope) relation out
 
 abbrev μ-loop : tie.MeasureT-loop
 μ-loop envelope out₀ relation₀ out relation = 8 - relation
 
--- src/profiles.rt:128:5
 loop-holds : tie.Need-loop-holds Inv-loop μ-loop
-loop-holds c = search (table-start, needs)
+loop-holds c = search (numbering-start, needs)
 
--- src/profiles.rt:129:20
 cast-slot : tie.Need-cast-slot Inv-loop μ-loop
 cast-slot c = omega arith
 
--- src/profiles.rt:130:21
 given-rows-requires : tie.Need-given-rows-requires Inv-loop μ-loop
 given-rows-requires c κs = search needs
 
--- src/profiles.rt:130:9
 mul-out : tie.Need-mul-out Inv-loop μ-loop
 mul-out c = omega arith
 
--- src/profiles.rt:130:9
 array-write-out : tie.Need-array-write-out Inv-loop μ-loop
 array-write-out c = omega arith
 
--- src/profiles.rt:131:9
 add-relation : tie.Need-add-relation Inv-loop μ-loop
 add-relation c = omega arith
 
--- src/profiles.rt:128:5
 loop-less : tie.Need-loop-less Inv-loop μ-loop
 loop-less c = omega arith
 
--- src/profiles.rt:128:5
 loop-again : tie.Need-loop-again Inv-loop μ-loop
-loop-again c = search (table-more, needs)
+loop-again c = search (numbering-more, needs)
 
--- src/profiles.rt:123:1
 returns : tie.Need-returns Inv-loop μ-loop
 returns c = search (rows-given, needs)
 

@@ -1,5 +1,3 @@
-use Prim.Native.Nat.{_+_, _*_}
-use native.Mathlib.Omega.{arith}
 use Rattle.estimates.proofs.ProfileCodeLaws.{none-at}
 use borrow.Author.Needs.{needs}
 use Rattle.estimates.proofs.profiles.count_at.Statement.{statement}
@@ -7,35 +5,27 @@ use Rattle.estimates.proofs.profiles.count_at.Tie as tie
 use Rattle.estimates.proofs.profiles.count_at.Reads as reads
 use Rattle.estimates.proofs.profiles.count_at.Lts as lts
 
--- src/profiles.rt:191:18
 cast-i : tie.Need-cast-i
 cast-i c = search needs
 
--- src/profiles.rt:191:13
 mul-i : tie.Need-mul-i
 mul-i c = search needs
 
--- src/profiles.rt:191:45
 cast-i-2 : tie.Need-cast-i-2
 cast-i-2 c = search needs
 
--- src/profiles.rt:191:13
 add-i : tie.Need-add-i
 add-i c = search needs
 
--- src/profiles.rt:193:9
 returns : tie.Need-returns
 returns c = search (none-at, needs)
 
--- src/profiles.rt:195:5
 mul-result : tie.Need-mul-result
 mul-result c = search needs
 
--- src/profiles.rt:195:5
 array-read-result : tie.Need-array-read-result
 array-read-result c = search needs
 
--- src/profiles.rt:187:1
 returns-2 : tie.Need-returns-2
 returns-2 c = search needs
 

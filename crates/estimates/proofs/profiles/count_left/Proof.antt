@@ -7,47 +7,36 @@ use Rattle.estimates.proofs.profiles.count_left.Lts as lts
 use Rattle.estimates.proofs.division.short.Reads as short-reads
 use Rattle.estimates.proofs.profiles.rows_at.Reads as rows-at-reads
 
--- src/profiles.rt:204:17
 cast-if1 : tie.Need-cast-if1
 cast-if1 c = search needs
 
--- src/profiles.rt:205:16
 mul-result : tie.Need-mul-result
 mul-result c = search needs
 
--- src/profiles.rt:205:16
 array-read-result : tie.Need-array-read-result
 array-read-result c = search needs
 
--- src/profiles.rt:205:9
 returns : tie.Need-returns
 returns c = search (left-other, needs)
 
--- src/profiles.rt:207:17
 cast-if2 : tie.Need-cast-if2
 cast-if2 c = search needs
 
--- src/profiles.rt:208:9
 returns-2 : tie.Need-returns-2
 returns-2 c = search (left-same, needs)
 
--- src/profiles.rt:210:9
 rows-at-requires : tie.Need-rows-at-requires
 rows-at-requires c κs = search needs
 
--- src/profiles.rt:211:28
 mul-short : tie.Need-mul-short
 mul-short c = search needs
 
--- src/profiles.rt:211:28
 array-read-short : tie.Need-array-read-short
 array-read-short c = search needs
 
--- src/profiles.rt:211:5
 short-requires : tie.Need-short-requires
 short-requires c κs = search (c .before .before .before .before .before .before .pre .1, needs)
 
--- src/profiles.rt:199:1
 returns-3 : tie.Need-returns-3
 returns-3 c = search (left-short, needs)
 

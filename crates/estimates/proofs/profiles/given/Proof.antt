@@ -8,11 +8,9 @@ use Rattle.estimates.proofs.profiles.all_counts.Reads as all-counts-rea
 use Rattle.estimates.proofs.profiles.all_rows.Reads as all-rows-reads
 use Rattle.estimates.proofs.profiles.all_widths.Reads as all-widths-reads
 
--- src/profiles.rt:152:9
 all-rows-requires : tie.Need-all-rows-requires
 all-rows-requires c κs = search needs
 
--- src/profiles.rt:153:9
 all-counts-requires : tie.Need-all-counts-requires
 all-counts-requires c κs = search needs
 

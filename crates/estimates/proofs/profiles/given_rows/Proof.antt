@@ -6,15 +6,12 @@ use Rattle.estimates.proofs.profiles.given_rows.Reads as reads
 use Rattle.estimates.proofs.profiles.given_rows.Lts as lts
 use Rattle.estimates.proofs.profiles.rows_in.Reads as rows-in-reads
 
--- src/profiles.rt:104:9
 rows-in-requires : tie.Need-rows-in-requires
 rows-in-requires c κs = search needs
 
--- src/profiles.rt:99:1
 returns : tie.Need-returns
 returns c = search (rows-inside, needs)
 
--- src/profiles.rt:99:1
 returns-2 : tie.Need-returns-2
 returns-2 c = search (rows-outside, needs)
 

@@ -1,4 +1,3 @@
-use native.Mathlib.Omega.{arith}
 use Rattle.estimates.proofs.ProfileCodeLaws.{none-at}
 use borrow.Author.Needs.{needs}
 use Rattle.estimates.proofs.profiles.rows_at.Statement.{statement}
@@ -6,19 +5,15 @@ use Rattle.estimates.proofs.profiles.rows_at.Tie as tie
 use Rattle.estimates.proofs.profiles.rows_at.Reads as reads
 use Rattle.estimates.proofs.profiles.rows_at.Lts as lts
 
--- src/profiles.rt:181:9
 returns : tie.Need-returns
 returns c = search (none-at, needs)
 
--- src/profiles.rt:183:5
 mul-result : tie.Need-mul-result
 mul-result c = search needs
 
--- src/profiles.rt:183:5
 array-read-result : tie.Need-array-read-result
 array-read-result c = search needs
 
--- src/profiles.rt:175:1
 returns-2 : tie.Need-returns-2
 returns-2 c = search needs
 

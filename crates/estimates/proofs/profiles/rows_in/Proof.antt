@@ -6,23 +6,18 @@ use Rattle.estimates.proofs.profiles.rows_in.Tie as tie
 use Rattle.estimates.proofs.profiles.rows_in.Reads as reads
 use Rattle.estimates.proofs.profiles.rows_in.Lts as lts
 
--- src/profiles.rt:92:9
 returns : tie.Need-returns
 returns c = let a = c .before .args in no-rows (a .t1) (a .i) (omega arith)
 
--- src/profiles.rt:94:20
 mul-relation : tie.Need-mul-relation
 mul-relation c = search needs
 
--- src/profiles.rt:94:20
 array-copy-out-relation : tie.Need-array-copy-out-relation
 array-copy-out-relation c = search needs
 
--- src/profiles.rt:95:5
 cast-result : tie.Need-cast-result
 cast-result c = search needs
 
--- src/profiles.rt:88:1
 returns-2 : tie.Need-returns-2
 returns-2 c = search needs
 

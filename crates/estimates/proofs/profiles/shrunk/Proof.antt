@@ -1,5 +1,5 @@
 use Rattle.estimates.proofs.ProfileCodeLaws.{leftAt, shrunk-whole}
-use Rattle.estimates.proofs.TableCodeLaws.{Table, table-start, table-more}
+use Rattle.ground.proofs.NumberingLaws.{Numbering, numbering-start, numbering-more}
 use Prim.Native.Nat.{_-_}
 use borrow.Author.Needs.{needs}
 use native.Mathlib.Omega.{arith}
@@ -11,44 +11,35 @@ use Rattle.estimates.proofs.profiles.count_left.Reads as count-left-rea
 use Rattle.estimates.proofs.profiles.with_rows.Reads as with-rows-reads
 
 abbrev Inv-loop : tie.InvT-loop
-Inv-loop profile place rows count out₀ k₀ out k = Table 64 0 (leftAt profile place rows count) k out
+Inv-loop profile place rows count out₀ k₀ out k = Numbering 64 0 (leftAt profile place rows count) k out
 
 abbrev μ-loop : tie.MeasureT-loop
 μ-loop profile place rows count out₀ k₀ out k = 64 - k
 
--- src/profiles.rt:221:5
 loop-holds : tie.Need-loop-holds Inv-loop μ-loop
-loop-holds c = search (table-start, needs)
+loop-holds c = search (numbering-start, needs)
 
--- src/profiles.rt:222:18
 count-left-requires : tie.Need-count-left-requires Inv-loop μ-loop
 count-left-requires c κs = search (c .before .before .pre .1, needs)
 
--- src/profiles.rt:222:9
 mul-out : tie.Need-mul-out Inv-loop μ-loop
 mul-out c = omega arith
 
--- src/profiles.rt:222:9
 array-write-out : tie.Need-array-write-out Inv-loop μ-loop
 array-write-out c = omega arith
 
--- src/profiles.rt:223:9
 add-k : tie.Need-add-k Inv-loop μ-loop
 add-k c = omega arith
 
--- src/profiles.rt:221:5
 loop-less : tie.Need-loop-less Inv-loop μ-loop
 loop-less c = omega arith
 
--- src/profiles.rt:221:5
 loop-again : tie.Need-loop-again Inv-loop μ-loop
-loop-again c = search (table-more, needs)
+loop-again c = search (numbering-more, needs)
 
--- src/profiles.rt:227:15
 with-rows-requires : tie.Need-with-rows-requires Inv-loop μ-loop
 with-rows-requires c κs = search needs
 
--- src/profiles.rt:215:1
 returns : tie.Need-returns Inv-loop μ-loop
 returns c = search (shrunk-whole, needs)
 

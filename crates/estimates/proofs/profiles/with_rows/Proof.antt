@@ -7,19 +7,15 @@ use Rattle.estimates.proofs.profiles.with_rows.Tie as tie
 use Rattle.estimates.proofs.profiles.with_rows.Reads as reads
 use Rattle.estimates.proofs.profiles.with_rows.Lts as lts
 
--- src/profiles.rt:238:9
 mul-out : tie.Need-mul-out
 mul-out c = search needs
 
--- src/profiles.rt:238:9
 array-write-out : tie.Need-array-write-out
 array-write-out c = search needs
 
--- src/profiles.rt:232:1
 returns : tie.Need-returns
 returns c = search needs
 
--- src/profiles.rt:232:1
 returns-2 : tie.Need-returns-2
 returns-2 c = let a = c .before .args in sym (set-out (a .all) (a .relation) (a .rows) (omega arith))
 

@@ -1,4 +1,4 @@
-use Rattle.fields.proofs.HeadLaws.{head-refused, head-taken}
+use Rattle.fields.proofs.HeadCodeLaws.{head-refused, head-taken}
 use borrow.Author.Needs.{needs}
 use Rattle.fields.proofs.numbers.head_by.Statement.{statement}
 use Rattle.fields.proofs.numbers.head_by.Tie as tie

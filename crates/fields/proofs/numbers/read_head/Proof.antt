@@ -19,7 +19,7 @@ use Rattle.fields.specs.declared.numbers.NumberRead.{NumberRead}
 use Rattle.fields.specs.declared.numbers.Width.{Width}
 use Rattle.fields.specs.declared.numbers.Width.the-variants.{Two}
 use Rattle.fields.specs.declared.reader.Reader.{Reader}
-use Rattle.fields.proofs.HeadLaws.{head-read}
+use Rattle.fields.proofs.HeadCodeLaws.{head-read}
 use Rattle.fields.proofs.numbers.NumberRead as S
 use Rattle.fields.proofs.numbers.NumberRead.Laws as S′
 use Rattle.fields.proofs.numbers.Width as Wd

@@ -1,4 +1,4 @@
-use Rattle.fields.proofs.HeadLaws.{version-refused, version-no, version-yes}
+use Rattle.fields.proofs.HeadCodeLaws.{version-refused, version-no, version-yes}
 use Rattle.fields.proofs.NumberLaws.{between-low, between-high, between-in}
 use borrow.Author.Needs.{needs}
 use Rattle.fields.proofs.numbers.version_by.Statement.{statement}

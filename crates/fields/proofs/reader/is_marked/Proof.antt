@@ -1,5 +1,5 @@
 use native.Mathlib.Omega.{arith}
-use Rattle.fields.proofs.HeadLaws.{marked-first, marked-second, marked-third}
+use Rattle.fields.proofs.HeadCodeLaws.{marked-first, marked-second, marked-third}
 use borrow.Author.Needs.{needs}
 use Rattle.fields.proofs.reader.is_marked.Statement.{statement}
 use Rattle.fields.proofs.reader.is_marked.Tie as tie

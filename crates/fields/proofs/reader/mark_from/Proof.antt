@@ -1,5 +1,5 @@
 use native.Mathlib.Omega.{arith}
-use Rattle.fields.proofs.HeadLaws.{mark-short, mark-wrong, mark-right}
+use Rattle.fields.proofs.HeadCodeLaws.{mark-short, mark-wrong, mark-right}
 use borrow.Author.Needs.{needs}
 use Rattle.fields.proofs.reader.mark_from.Statement.{statement}
 use Rattle.fields.proofs.reader.mark_from.Tie as tie

@@ -7,19 +7,15 @@ use Rattle.listing.proofs.listing.list_paper.Lts as lts
 use Rattle.planner.proofs.planner.plan_paper.Reads as plan-paper-reads
 use Rattle.listing.proofs.listing.put_listing.Reads as put-listing-reads
 
--- src/listing.rt:97:9
 plan-paper-requires : tie.Need-plan-paper-requires
 plan-paper-requires c κs = search needs
 
--- src/listing.rt:98:5
 put-listing-requires : tie.Need-put-listing-requires
 put-listing-requires c κs = search needs
 
--- src/listing.rt:94:1
 same-length : tie.Need-same-length
 same-length c = search needs
 
--- src/listing.rt:94:1
 returns : tie.Need-returns
 returns c = search (listed, needs)
 

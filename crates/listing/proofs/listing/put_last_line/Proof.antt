@@ -7,55 +7,42 @@ use Rattle.listing.proofs.listing.put_last_line.Lts as lts
 use Rattle.listing.proofs.texts.put_behind.Reads as put-behind-reads
 use Rattle.listing.proofs.texts.put_words.Reads as put-words-reads
 
--- src/listing.rt:56:42
 slice-aggregate-put-behind : tie.Need-slice-aggregate-put-behind
 slice-aggregate-put-behind c = search needs
 
--- src/listing.rt:56:52
 cast-put-behind : tie.Need-cast-put-behind
 cast-put-behind c = search needs
 
--- src/listing.rt:56:9
 put-behind-requires : tie.Need-put-behind-requires
 put-behind-requires c κs = search needs
 
--- src/listing.rt:57:41
 slice-aggregate-put-behind-2 : tie.Need-slice-aggregate-put-behind-2
 slice-aggregate-put-behind-2 c = search needs
 
--- src/listing.rt:57:9
 put-behind-requires-2 : tie.Need-put-behind-requires-2
 put-behind-requires-2 c κs = search needs
 
--- src/listing.rt:58:41
 slice-aggregate-put-behind-3 : tie.Need-slice-aggregate-put-behind-3
 slice-aggregate-put-behind-3 c = search needs
 
--- src/listing.rt:58:9
 put-behind-requires-3 : tie.Need-put-behind-requires-3
 put-behind-requires-3 c κs = search needs
 
--- src/listing.rt:59:41
 slice-aggregate-put-behind-4 : tie.Need-slice-aggregate-put-behind-4
 slice-aggregate-put-behind-4 c = search needs
 
--- src/listing.rt:59:9
 put-behind-requires-4 : tie.Need-put-behind-requires-4
 put-behind-requires-4 c κs = search needs
 
--- src/listing.rt:60:30
 slice-aggregate-put-words : tie.Need-slice-aggregate-put-words
 slice-aggregate-put-words c = search needs
 
--- src/listing.rt:60:5
 put-words-requires : tie.Need-put-words-requires
 put-words-requires c κs = search needs
 
--- src/listing.rt:52:1
 same-length : tie.Need-same-length
 same-length c = search needs
 
--- src/listing.rt:52:1
 returns : tie.Need-returns
 returns c = last-put _ _ _ _ _ _ _ _ _ _ (c .before .before .before .before .before .before .before .before .before .before .before .before .before .before .before .before .before .before .before .before .before .before .before .before .before .before .before .args .plan) _ _ (c .before .before .before .before .before .before .before .before .before .before .before .before .before .before .before .before .before .before .before .before .before .before .put-behind .ensures) (c .before .before .before .before .before .before .before .before .before .before .before .before .before .before .before .before .before .put-behind2 .ensures) (c .before .before .before .before .before .before .before .before .before .before .before .before .put-behind3 .ensures) (c .before .before .before .before .before .before .before .put-behind4 .ensures) (c .before .before .put-words .ensures)
 

@@ -7,35 +7,27 @@ use Rattle.listing.proofs.listing.put_listing.Lts as lts
 use Rattle.listing.proofs.listing.put_plan.Reads as put-plan-reads
 use Rattle.listing.proofs.listing.put_refusal.Reads as put-refusal-reads
 
--- src/listing.rt:86:36
 enum-told : tie.Need-enum-told
 enum-told c = search needs
 
--- src/listing.rt:86:27
 put-plan-requires : tie.Need-put-plan-requires
 put-plan-requires c κs = search needs
 
--- src/listing.rt:87:28
 enum-known-verdict : tie.Need-enum-known-verdict
 enum-known-verdict c = search needs
 
--- src/listing.rt:87:50
 put-refusal-requires : tie.Need-put-refusal-requires
 put-refusal-requires c κs = search needs
 
--- src/listing.rt:81:1
 same-length : tie.Need-same-length
 same-length c = search needs
 
--- src/listing.rt:81:1
 returns : tie.Need-returns
 returns c = search (listing-taken, needs)
 
--- src/listing.rt:81:1
 same-length-2 : tie.Need-same-length-2
 same-length-2 c = search needs
 
--- src/listing.rt:81:1
 returns-2 : tie.Need-returns-2
 returns-2 c = search (listing-refused, needs)
 

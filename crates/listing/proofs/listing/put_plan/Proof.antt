@@ -8,27 +8,21 @@ use Rattle.listing.proofs.listing.put_last_line.Reads as put-last-line-
 use Rattle.listing.proofs.listing.put_step_lines.Reads as put-step-lines-reads
 use Rattle.listing.proofs.texts.put_words.Reads as put-words-reads
 
--- src/listing.rt:67:38
 slice-aggregate-put-words : tie.Need-slice-aggregate-put-words
 slice-aggregate-put-words c = search needs
 
--- src/listing.rt:67:9
 put-words-requires : tie.Need-put-words-requires
 put-words-requires c κs = search needs
 
--- src/listing.rt:68:9
 put-step-lines-requires : tie.Need-put-step-lines-requires
 put-step-lines-requires c κs = search needs
 
--- src/listing.rt:69:5
 put-last-line-requires : tie.Need-put-last-line-requires
 put-last-line-requires c κs = search needs
 
--- src/listing.rt:63:1
 same-length : tie.Need-same-length
 same-length c = search needs
 
--- src/listing.rt:63:1
 returns : tie.Need-returns
 returns c = search (plan-put, needs)
 

@@ -7,35 +7,27 @@ use Rattle.listing.proofs.listing.put_refusal.Lts as lts
 use Rattle.listing.proofs.texts.put_behind.Reads as put-behind-reads
 use Rattle.listing.proofs.texts.put_words.Reads as put-words-reads
 
--- src/listing.rt:75:41
 slice-aggregate-put-behind : tie.Need-slice-aggregate-put-behind
 slice-aggregate-put-behind c = search needs
 
--- src/listing.rt:75:9
 put-behind-requires : tie.Need-put-behind-requires
 put-behind-requires c κs = search needs
 
--- src/listing.rt:76:41
 slice-aggregate-put-behind-2 : tie.Need-slice-aggregate-put-behind-2
 slice-aggregate-put-behind-2 c = search needs
 
--- src/listing.rt:76:9
 put-behind-requires-2 : tie.Need-put-behind-requires-2
 put-behind-requires-2 c κs = search needs
 
--- src/listing.rt:77:30
 slice-aggregate-put-words : tie.Need-slice-aggregate-put-words
 slice-aggregate-put-words c = search needs
 
--- src/listing.rt:77:5
 put-words-requires : tie.Need-put-words-requires
 put-words-requires c κs = search needs
 
--- src/listing.rt:72:1
 same-length : tie.Need-same-length
 same-length c = search needs
 
--- src/listing.rt:72:1
 returns : tie.Need-returns
 returns c = search (refusal-put, needs)
 

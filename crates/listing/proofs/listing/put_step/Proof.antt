@@ -7,55 +7,42 @@ use Rattle.listing.proofs.listing.put_step.Lts as lts
 use Rattle.listing.proofs.texts.put_decimal.Reads as put-decimal-reads
 use Rattle.listing.proofs.texts.put_behind.Reads as put-behind-reads
 
--- src/listing.rt:19:41
 cast-put-decimal : tie.Need-cast-put-decimal
 cast-put-decimal c = search needs
 
--- src/listing.rt:19:9
 put-decimal-requires : tie.Need-put-decimal-requires
 put-decimal-requires c κs = search needs
 
--- src/listing.rt:20:41
 slice-aggregate-put-behind : tie.Need-slice-aggregate-put-behind
 slice-aggregate-put-behind c = search needs
 
--- src/listing.rt:20:47
 cast-put-behind : tie.Need-cast-put-behind
 cast-put-behind c = search needs
 
--- src/listing.rt:20:9
 put-behind-requires : tie.Need-put-behind-requires
 put-behind-requires c κs = search needs
 
--- src/listing.rt:21:41
 slice-aggregate-put-behind-2 : tie.Need-slice-aggregate-put-behind-2
 slice-aggregate-put-behind-2 c = search needs
 
--- src/listing.rt:21:47
 cast-put-behind-2 : tie.Need-cast-put-behind-2
 cast-put-behind-2 c = search needs
 
--- src/listing.rt:21:9
 put-behind-requires-2 : tie.Need-put-behind-requires-2
 put-behind-requires-2 c κs = search needs
 
--- src/listing.rt:22:33
 slice-aggregate-put-behind-3 : tie.Need-slice-aggregate-put-behind-3
 slice-aggregate-put-behind-3 c = search needs
 
--- src/listing.rt:22:39
 cast-put-behind-3 : tie.Need-cast-put-behind-3
 cast-put-behind-3 c = search needs
 
--- src/listing.rt:22:5
 put-behind-requires-3 : tie.Need-put-behind-requires-3
 put-behind-requires-3 c κs = search needs
 
--- src/listing.rt:13:1
 same-length : tie.Need-same-length
 same-length c = search needs
 
--- src/listing.rt:13:1
 returns : tie.Need-returns
 returns c = search (step-put, needs)
 

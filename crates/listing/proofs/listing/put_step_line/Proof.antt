@@ -8,39 +8,30 @@ use Rattle.listing.proofs.listing.put_step.Reads as put-step-reads
 use Rattle.listing.proofs.texts.put_behind.Reads as put-behind-reads
 use Rattle.listing.proofs.texts.put_words.Reads as put-words-reads
 
--- src/listing.rt:30:9
 put-step-requires : tie.Need-put-step-requires
 put-step-requires c κs = search needs
 
--- src/listing.rt:31:41
 slice-aggregate-put-behind : tie.Need-slice-aggregate-put-behind
 slice-aggregate-put-behind c = search needs
 
--- src/listing.rt:31:9
 put-behind-requires : tie.Need-put-behind-requires
 put-behind-requires c κs = search needs
 
--- src/listing.rt:32:41
 slice-aggregate-put-behind-2 : tie.Need-slice-aggregate-put-behind-2
 slice-aggregate-put-behind-2 c = search needs
 
--- src/listing.rt:32:9
 put-behind-requires-2 : tie.Need-put-behind-requires-2
 put-behind-requires-2 c κs = search needs
 
--- src/listing.rt:33:30
 slice-aggregate-put-words : tie.Need-slice-aggregate-put-words
 slice-aggregate-put-words c = search needs
 
--- src/listing.rt:33:5
 put-words-requires : tie.Need-put-words-requires
 put-words-requires c κs = search needs
 
--- src/listing.rt:25:1
 same-length : tie.Need-same-length
 same-length c = search needs
 
--- src/listing.rt:25:1
 returns : tie.Need-returns
 returns c = search (line-put, needs)
 

@@ -16,43 +16,33 @@ Inv-loop out₀ at count lines end i₀ p₀ out i p = Writing stepLine 126 line
 abbrev μ-loop : tie.MeasureT-loop
 μ-loop out₀ at count lines end i₀ p₀ out i p = end - i
 
--- src/listing.rt:41:9
 in-use-requires : tie.Need-in-use-requires Inv-loop μ-loop
 in-use-requires c κs = search needs
 
--- src/listing.rt:44:5
 loop-holds : tie.Need-loop-holds Inv-loop μ-loop
 loop-holds c = writing-start _ _ _ _ _ _ (omega arith)
 
--- src/listing.rt:45:20
 mul-line : tie.Need-mul-line Inv-loop μ-loop
 mul-line c = omega arith
 
--- src/listing.rt:45:20
 array-copy-out-line : tie.Need-array-copy-out-line Inv-loop μ-loop
 array-copy-out-line c = omega arith
 
--- src/listing.rt:46:9
 put-step-line-requires : tie.Need-put-step-line-requires Inv-loop μ-loop
 put-step-line-requires c κs = search needs
 
--- src/listing.rt:47:9
 add-i : tie.Need-add-i Inv-loop μ-loop
 add-i c = omega arith
 
--- src/listing.rt:44:5
 loop-less : tie.Need-loop-less Inv-loop μ-loop
 loop-less c = omega arith
 
--- src/listing.rt:44:5
 loop-again : tie.Need-loop-again Inv-loop μ-loop
 loop-again c = search (writing-more, needs)
 
--- src/listing.rt:37:1
 same-length : tie.Need-same-length Inv-loop μ-loop
 same-length c = omega arith
 
--- src/listing.rt:37:1
 returns : tie.Need-returns Inv-loop μ-loop
 returns c = search (writing-place, writing-done, needs)
 

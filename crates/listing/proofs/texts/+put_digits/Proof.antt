@@ -22,7 +22,6 @@ abbrev put-digits-below : ℕ → In 1 put-digits-kinds.ps
 put-digits-below t =
     and 1 put-digits-kinds.ps (falls 1 put-digits-kinds.ps _<_ μ-put-digits t) put-digits.Pre
 
--- src/texts.rt:38:9
 put-digits-put-digit-requires : (t : ℕ) → put-digits-lts.Need-put-digit-requires (
   put-digit-reads.Asked,
   put-digit-reads.Learnt,
@@ -31,7 +30,6 @@ put-digits-put-digit-requires : (t : ℕ) → put-digits-lts.Need-put-digit-requ
 ) (put-digits-at t) put-digits.Post
 put-digits-put-digit-requires t c κs = search needs
 
--- src/texts.rt:38:9
 put-digits-same-length : (t : ℕ) → put-digits-lts.Need-same-length (
   put-digit-reads.Asked,
   put-digit-reads.Learnt,
@@ -40,7 +38,6 @@ put-digits-same-length : (t : ℕ) → put-digits-lts.Need-same-length (
 ) (put-digits-at t) put-digits.Post
 put-digits-same-length t c = omega arith
 
--- src/texts.rt:38:9
 put-digits-returns : (t : ℕ) → put-digits-lts.Need-returns (
   put-digit-reads.Asked,
   put-digit-reads.Learnt,
@@ -49,7 +46,6 @@ put-digits-returns : (t : ℕ) → put-digits-lts.Need-returns (
 ) (put-digits-at t) put-digits.Post
 put-digits-returns t c = search (digits-one, needs)
 
--- src/texts.rt:40:41
 put-digits-sub-put-digits : (t : ℕ) → put-digits-lts.Need-sub-put-digits (
   put-digit-reads.Asked,
   put-digit-reads.Learnt,
@@ -58,7 +54,6 @@ put-digits-sub-put-digits : (t : ℕ) → put-digits-lts.Need-sub-put-digits (
 ) (put-digits-at t) put-digits.Post
 put-digits-sub-put-digits t c = omega arith
 
--- src/texts.rt:40:9
 put-digits-put-digits-requires : (t : ℕ) → put-digits-lts.Need-put-digits-requires (
   put-digit-reads.Asked,
   put-digit-reads.Learnt,
@@ -67,7 +62,6 @@ put-digits-put-digits-requires : (t : ℕ) → put-digits-lts.Need-put-digits-re
 ) (put-digits-at t) put-digits.Post
 put-digits-put-digits-requires t c κs = search (digits-room, digits-left, needs)
 
--- src/texts.rt:41:5
 put-digits-put-digit-requires-2 : (t : ℕ) → put-digits-lts.Need-put-digit-requires-2 (
   put-digit-reads.Asked,
   put-digit-reads.Learnt,
@@ -76,7 +70,6 @@ put-digits-put-digit-requires-2 : (t : ℕ) → put-digits-lts.Need-put-digit-re
 ) (put-digits-at t) put-digits.Post
 put-digits-put-digit-requires-2 t c κs = search needs
 
--- src/texts.rt:33:1
 put-digits-same-length-2 : (t : ℕ) → put-digits-lts.Need-same-length-2 (
   put-digit-reads.Asked,
   put-digit-reads.Learnt,
@@ -85,7 +78,6 @@ put-digits-same-length-2 : (t : ℕ) → put-digits-lts.Need-same-length-2 (
 ) (put-digits-at t) put-digits.Post
 put-digits-same-length-2 t c = omega arith
 
--- src/texts.rt:33:1
 put-digits-returns-2 : (t : ℕ) → put-digits-lts.Need-returns-2 (
   put-digit-reads.Asked,
   put-digit-reads.Learnt,

@@ -7,19 +7,15 @@ use Rattle.listing.proofs.texts.put_behind.Lts as lts
 use Rattle.listing.proofs.texts.put_decimal.Reads as put-decimal-reads
 use Rattle.listing.proofs.texts.put_words.Reads as put-words-reads
 
--- src/texts.rt:62:9
 put-words-requires : tie.Need-put-words-requires
 put-words-requires c κs = search needs
 
--- src/texts.rt:63:5
 put-decimal-requires : tie.Need-put-decimal-requires
 put-decimal-requires c κs = search needs
 
--- src/texts.rt:58:1
 same-length : tie.Need-same-length
 same-length c = search needs
 
--- src/texts.rt:58:1
 returns : tie.Need-returns
 returns c = search (both-put, needs)
 

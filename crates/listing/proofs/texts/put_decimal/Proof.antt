@@ -6,15 +6,12 @@ use Rattle.listing.proofs.texts.put_decimal.Reads as reads
 use Rattle.listing.proofs.texts.put_decimal.Lts as lts
 use Rattle.listing.proofs.texts.put_digits.Reads as put-digits-reads
 
--- src/texts.rt:54:5
 put-digits-requires : tie.Need-put-digits-requires
 put-digits-requires c κs = search needs
 
--- src/texts.rt:50:1
 same-length : tie.Need-same-length
 same-length c = search needs
 
--- src/texts.rt:50:1
 returns : tie.Need-returns
 returns c = search (decimal-put, needs)
 

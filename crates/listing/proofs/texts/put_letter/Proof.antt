@@ -6,15 +6,12 @@ use Rattle.listing.proofs.texts.put_letter.Reads as reads
 use Rattle.listing.proofs.texts.put_letter.Lts as lts
 use Rattle.fields.proofs.puts.put_number.Reads as put-number-reads
 
--- src/texts.rt:15:5
 put-number-requires : tie.Need-put-number-requires
 put-number-requires c κs = search needs
 
--- src/texts.rt:12:1
 same-length : tie.Need-same-length
 same-length c = search needs
 
--- src/texts.rt:12:1
 returns : tie.Need-returns
 returns c = search (letter-put, needs)
 

@@ -15,43 +15,33 @@ Inv-loop out₀ at words i₀ out i = Spelling words out₀ at i out
 abbrev μ-loop : tie.MeasureT-loop
 μ-loop out₀ at words i₀ out i = length words - i
 
--- src/texts.rt:23:5
 loop-holds : tie.Need-loop-holds Inv-loop μ-loop
 loop-holds c = search (spelling-start, needs)
 
--- src/texts.rt:24:25
 add-put-letter : tie.Need-add-put-letter Inv-loop μ-loop
 add-put-letter c = omega arith
 
--- src/texts.rt:24:33
 shared-slice-read-put-letter : tie.Need-shared-slice-read-put-letter Inv-loop μ-loop
 shared-slice-read-put-letter c = omega arith
 
--- src/texts.rt:24:9
 put-letter-requires : tie.Need-put-letter-requires Inv-loop μ-loop
 put-letter-requires c κs = search needs
 
--- src/texts.rt:25:9
 add-i : tie.Need-add-i Inv-loop μ-loop
 add-i c = omega arith
 
--- src/texts.rt:23:5
 loop-less : tie.Need-loop-less Inv-loop μ-loop
 loop-less c = omega arith
 
--- src/texts.rt:23:5
 loop-again : tie.Need-loop-again Inv-loop μ-loop
 loop-again c = search (spelling-more, needs)
 
--- src/texts.rt:27:5
 add-result : tie.Need-add-result Inv-loop μ-loop
 add-result c = omega arith
 
--- src/texts.rt:18:1
 same-length : tie.Need-same-length Inv-loop μ-loop
 same-length c = search (spelling-long, needs)
 
--- src/texts.rt:18:1
 returns : tie.Need-returns Inv-loop μ-loop
 returns c = search (spelling-done, needs)
 

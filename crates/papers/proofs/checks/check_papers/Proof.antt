@@ -8,47 +8,36 @@ use Rattle.envelopes.proofs.reading.check_envelope.Reads as check-envelope-read
 use Rattle.papers.proofs.checks.refused_papers.Reads as refused-papers-reads
 use Rattle.papers.proofs.programs.program_against.Reads as program-against-reads
 
--- src/checks.rt:36:9
 check-envelope-requires : tie.Need-check-envelope-requires
 check-envelope-requires c κs = search needs
 
--- src/checks.rt:39:28
 enum-known-verdict : tie.Need-enum-known-verdict
 enum-known-verdict c = search needs
 
--- src/checks.rt:39:50
 refused-papers-requires : tie.Need-refused-papers-requires
 refused-papers-requires c κs = search needs
 
--- src/checks.rt:41:17
 enum-told : tie.Need-enum-told
 enum-told c = search needs
 
--- src/checks.rt:41:17
 program-against-requires : tie.Need-program-against-requires
 program-against-requires c κs = search (papers-within, needs)
 
--- src/checks.rt:44:36
 enum-known-found : tie.Need-enum-known-found
 enum-known-found c = search needs
 
--- src/checks.rt:44:58
 refused-papers-requires-2 : tie.Need-refused-papers-requires-2
 refused-papers-requires-2 c κs = search needs
 
--- src/checks.rt:46:25
 enum-told-2 : tie.Need-enum-told-2
 enum-told-2 c = search needs
 
--- src/checks.rt:33:1
 returns : tie.Need-returns
 returns c = search (papers-envelope, needs)
 
--- src/checks.rt:33:1
 returns-2 : tie.Need-returns-2
 returns-2 c = search (papers-program, needs)
 
--- src/checks.rt:33:1
 returns-3 : tie.Need-returns-3
 returns-3 c = search (papers-good, needs)
 

@@ -7,15 +7,12 @@ use Rattle.papers.proofs.checks.refused_papers.Lts as lts
 use Rattle.contents.proofs.envelope.no_envelope.Reads as no-envelope-reads
 use Rattle.papers.proofs.programs.no_program.Reads as no-program-reads
 
--- src/checks.rt:24:9
 no-envelope-requires : tie.Need-no-envelope-requires
 no-envelope-requires c κs = search needs
 
--- src/checks.rt:25:9
 no-program-requires : tie.Need-no-program-requires
 no-program-requires c κs = search needs
 
--- src/checks.rt:21:1
 returns : tie.Need-returns
 returns c = search (papers-none, needs)
 

@@ -8,7 +8,7 @@ use Rattle.planner.proofs.candidates.legal_steps.Tie as tie
 use Rattle.planner.proofs.candidates.legal_steps.Reads as reads
 use Rattle.planner.proofs.candidates.legal_steps.Lts as lts
 use Rattle.papers.proofs.programs.no_step.Reads as no-step-reads
-use Rattle.planner.proofs.candidates.step_at.Reads as step-at-reads
+use Rattle.planner.proofs.candidates.candidate_at.Reads as candidate-at-reads
 use Rattle.paths.proofs.labels.labels_of.Reads as labels-of-reads
 use Rattle.paths.proofs.steps.legal_by.Reads as legal-by-reads
 
@@ -18,55 +18,42 @@ Inv-loop envelope labels all₀ count₀ k₀ all count k = Listing envelope k c
 abbrev μ-loop : tie.MeasureT-loop
 μ-loop envelope labels all₀ count₀ k₀ all count k = 4096 - k
 
--- src/candidates.rt:80:9
 labels-of-requires : tie.Need-labels-of-requires Inv-loop μ-loop
 labels-of-requires c κs = search needs
 
--- src/candidates.rt:81:20
 no-step-requires : tie.Need-no-step-requires Inv-loop μ-loop
 no-step-requires c κs = search needs
 
--- src/candidates.rt:84:5
 loop-holds : tie.Need-loop-holds Inv-loop μ-loop
 loop-holds c = search (listing-start, needs)
 
--- src/candidates.rt:85:13
-step-at-requires : tie.Need-step-at-requires Inv-loop μ-loop
-step-at-requires c κs = search needs
+candidate-at-requires : tie.Need-candidate-at-requires Inv-loop μ-loop
+candidate-at-requires c κs = search needs
 
--- src/candidates.rt:86:12
 legal-by-requires : tie.Need-legal-by-requires Inv-loop μ-loop
 legal-by-requires c κs = search needs
 
--- src/candidates.rt:87:24
 cast-slot : tie.Need-cast-slot Inv-loop μ-loop
 cast-slot c = search needs
 
--- src/candidates.rt:88:13
 mul-all : tie.Need-mul-all Inv-loop μ-loop
 mul-all c = search needs
 
--- src/candidates.rt:88:13
 array-set-from-all : tie.Need-array-set-from-all Inv-loop μ-loop
 array-set-from-all c = search (listing-room, needs)
 
--- src/candidates.rt:89:13
 add-count : tie.Need-add-count Inv-loop μ-loop
 add-count c = search (listing-room, needs)
 
--- src/candidates.rt:91:9
 add-k : tie.Need-add-k Inv-loop μ-loop
 add-k c = omega arith
 
--- src/candidates.rt:84:5
 loop-less : tie.Need-loop-less Inv-loop μ-loop
 loop-less c = omega arith
 
--- src/candidates.rt:84:5
 loop-again : tie.Need-loop-again Inv-loop μ-loop
 loop-again c = ⊎-elim (λ w. search (listing-yes, needs)) (λ w. search (listing-no, needs)) (c .if1 .came)
 
--- src/candidates.rt:76:1
 returns : tie.Need-returns Inv-loop μ-loop
 returns c = search (listing-done, needs)
 
@@ -79,7 +66,7 @@ legal-steps-spec =
     labels-of-requires
     no-step-requires
     loop-holds
-    step-at-requires
+    candidate-at-requires
     legal-by-requires
     cast-slot
     mul-all

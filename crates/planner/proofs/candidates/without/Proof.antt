@@ -16,55 +16,42 @@ Inv-loop n used steps all₀ count₀ i₀ all count i = Removing used steps n i
 abbrev μ-loop : tie.MeasureT-loop
 μ-loop n used steps all₀ count₀ i₀ all count i = n - i
 
--- src/candidates.rt:104:20
 no-step-requires : tie.Need-no-step-requires Inv-loop μ-loop
 no-step-requires c κs = search needs
 
--- src/candidates.rt:107:5
 loop-holds : tie.Need-loop-holds Inv-loop μ-loop
 loop-holds c = search (removing-start, needs)
 
--- src/candidates.rt:108:20
 mul-step : tie.Need-mul-step Inv-loop μ-loop
 mul-step c = omega arith
 
--- src/candidates.rt:108:20
 array-copy-out-step : tie.Need-array-copy-out-step Inv-loop μ-loop
 array-copy-out-step c = omega arith
 
--- src/candidates.rt:109:13
 same-step-requires : tie.Need-same-step-requires Inv-loop μ-loop
 same-step-requires c κs = search needs
 
--- src/candidates.rt:110:24
 cast-slot : tie.Need-cast-slot Inv-loop μ-loop
 cast-slot c = search needs
 
--- src/candidates.rt:111:13
 mul-all : tie.Need-mul-all Inv-loop μ-loop
 mul-all c = search needs
 
--- src/candidates.rt:111:13
 array-set-from-all : tie.Need-array-set-from-all Inv-loop μ-loop
 array-set-from-all c = search (removing-room, needs)
 
--- src/candidates.rt:112:13
 add-count : tie.Need-add-count Inv-loop μ-loop
 add-count c = search (removing-room, needs)
 
--- src/candidates.rt:114:9
 add-i : tie.Need-add-i Inv-loop μ-loop
 add-i c = omega arith
 
--- src/candidates.rt:107:5
 loop-less : tie.Need-loop-less Inv-loop μ-loop
 loop-less c = omega arith
 
--- src/candidates.rt:107:5
 loop-again : tie.Need-loop-again Inv-loop μ-loop
 loop-again c = ⊎-elim (λ w. search (removing-yes, needs)) (λ w. search (removing-no, needs)) (c .if1 .came)
 
--- src/candidates.rt:100:1
 returns : tie.Need-returns Inv-loop μ-loop
 returns c = let a = c .before .before .before .args in removing-done (a .used) _ (a .n) (c .before .before .before .pre) (search needs) _ _ _ (c .before .loop .inv) (search needs)
 

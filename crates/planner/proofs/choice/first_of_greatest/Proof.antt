@@ -20,35 +20,27 @@ Inv-loop costs envelope profile n steps best₀ most₀ i₀ best most i = Seeki
 abbrev μ-loop : tie.MeasureT-loop
 μ-loop costs envelope profile n steps best₀ most₀ i₀ best most i = n - i
 
--- src/choice.rt:51:9
 no-step-requires : tie.Need-no-step-requires Inv-loop μ-loop
 no-step-requires c κs = search needs
 
--- src/choice.rt:54:5
 loop-holds : tie.Need-loop-holds Inv-loop μ-loop
 loop-holds c = search (choice-start, needs)
 
--- src/choice.rt:55:20
 mul-step : tie.Need-mul-step Inv-loop μ-loop
 mul-step c = omega arith
 
--- src/choice.rt:55:20
 array-copy-out-step : tie.Need-array-copy-out-step Inv-loop μ-loop
 array-copy-out-step c = omega arith
 
--- src/choice.rt:56:13
 gain-requires : tie.Need-gain-requires Inv-loop μ-loop
 gain-requires c κs = (c .before .before .before .before .pre .1, c .before .before .before .before .pre .2 _ (search needs))
 
--- src/choice.rt:61:9
 add-i : tie.Need-add-i Inv-loop μ-loop
 add-i c = omega arith
 
--- src/choice.rt:54:5
 loop-less : tie.Need-loop-less Inv-loop μ-loop
 loop-less c = omega arith
 
--- src/choice.rt:54:5
 loop-again : tie.Need-loop-again Inv-loop μ-loop
 loop-again c = let a = c .before .before .before .before .before .before .args in let l = c .before .before .before .before .loop in let f = c .before .before .before .before .before .before .pre .0 in
     ⊎-elim
@@ -56,11 +48,9 @@ loop-again c = let a = c .before .before .before .before .before .before .args i
     (λ w. seeking-less (gain (kindOf (a .costs) (a .envelope)) (a .profile)) _ (a .n) 156 f (search needs) noStep (l .i) (l .best) (l .most) (l .inv) (search needs) _ (c .before .gain .ensures) (w .0 .left) _ _ (w .1) (w .2))
     (c .if1 .came)
 
--- src/choice.rt:41:1
 returns : tie.Need-returns Inv-loop μ-loop
 returns c = search (choice-nothing, needs)
 
--- src/choice.rt:41:1
 returns-2 : tie.Need-returns-2 Inv-loop μ-loop
 returns-2 c = search (choice-chosen, needs)
 

@@ -6,21 +6,17 @@ use Rattle.planner.proofs.choice.gain.Reads as reads
 use Rattle.planner.proofs.choice.gain.Lts as lts
 use Rattle.estimates.proofs.estimator.line_of.Reads as line-of-reads
 
--- src/choice.rt:38:9
 line-of-requires : tie.Need-line-of-requires
 line-of-requires c κs = search needs
 
--- src/choice.rt:39:35
 sub-result : tie.Need-sub-result
 sub-result c = search needs
 
--- src/choice.rt:34:1
 returns : tie.Need-returns
 returns c =
     let a = c .before .before .before .before .args in
     gain-above (a .costs) (a .envelope) (a .profile) (a .step) _ (c .before .before .before .line-of .ensures) (search needs)
 
--- src/choice.rt:34:1
 returns-2 : tie.Need-returns-2
 returns-2 c =
     let a = c .before .before .before .args in

@@ -1,6 +1,5 @@
 use Rattle.planner.proofs.ChoiceCodeLaws.{Planning, planning-start, planning-few, planning-bounded, planning-shrinks, planning-done, planning-room, planning-ready, planning-less, planning-more}
 use borrow.Author.Needs.{needs}
-use native.Mathlib.Omega.{arith}
 use Rattle.planner.proofs.choice.greedy_steps.Statement.{statement}
 use Rattle.planner.proofs.choice.greedy_steps.Tie as tie
 use Rattle.planner.proofs.choice.greedy_steps.Reads as reads
@@ -17,69 +16,54 @@ Inv-loop costs envelope unused₀ now₀ all₀ count₀ unused now all count = 
 abbrev μ-loop : tie.MeasureT-loop
 μ-loop costs envelope unused₀ now₀ all₀ count₀ unused now all count = unused .count
 
--- src/choice.rt:75:9
 legal-steps-requires : tie.Need-legal-steps-requires Inv-loop μ-loop
 legal-steps-requires c κs = search needs
 
--- src/choice.rt:77:20
 no-step-requires : tie.Need-no-step-requires Inv-loop μ-loop
 no-step-requires c κs = search needs
 
--- src/choice.rt:79:5
 loop-holds : tie.Need-loop-holds Inv-loop μ-loop
 loop-holds c = search (planning-start, needs)
 
--- src/choice.rt:81:13
 first-of-greatest-requires : tie.Need-first-of-greatest-requires Inv-loop μ-loop
 first-of-greatest-requires c κs = search (planning-few, planning-bounded, planning-shrinks, needs)
 
--- src/choice.rt:82:28
 enum-known-next : tie.Need-enum-known-next Inv-loop μ-loop
 enum-known-next c = search needs
 
--- src/choice.rt:83:13
 enum-told : tie.Need-enum-told Inv-loop μ-loop
 enum-told c = search needs
 
--- src/choice.rt:85:20
 cast-slot : tie.Need-cast-slot Inv-loop μ-loop
 cast-slot c = search needs
 
--- src/choice.rt:86:9
 mul-all : tie.Need-mul-all Inv-loop μ-loop
 mul-all c = search (planning-room, needs)
 
--- src/choice.rt:86:9
 array-set-from-all : tie.Need-array-set-from-all Inv-loop μ-loop
 array-set-from-all c = search (planning-room, needs)
 
--- src/choice.rt:87:9
 add-count : tie.Need-add-count Inv-loop μ-loop
 add-count c = search (planning-room, needs)
 
--- src/choice.rt:88:9
 without-requires : tie.Need-without-requires Inv-loop μ-loop
 without-requires c κs = search (planning-few, needs)
 
--- src/choice.rt:89:9
 after-step-requires : tie.Need-after-step-requires Inv-loop μ-loop
 after-step-requires c κs = let a = c .before .before .before .before .before .before .before .before .before .args in
     let l = c .before .before .before .before .before .before .loop in
     planning-ready (a .costs) (a .envelope) (a .local) (c .before .before .before .before .before .before .before .before .before .pre) (l .unused) (l .now) (l .count) (l .all) (l .inv) _ (c .before .before .before .before .first-of-greatest .ensures) _ (c .before .before .next .given .1)
 
--- src/choice.rt:79:5
 loop-less : tie.Need-loop-less Inv-loop μ-loop
 loop-less c = let a = c .before .before .before .before .before .before .before .before .before .before .args in
     let l = c .before .before .before .before .before .before .before .loop in
     planning-less (a .costs) (a .envelope) (a .local) (c .before .before .before .before .before .before .before .before .before .before .pre) (l .unused) (l .now) (l .count) (l .all) (l .inv) _ (c .before .before .before .before .before .first-of-greatest .ensures) _ (c .before .before .before .next .given .1) _ (c .before .without .ensures)
 
--- src/choice.rt:79:5
 loop-again : tie.Need-loop-again Inv-loop μ-loop
 loop-again c = let a = c .before .before .before .before .before .before .before .before .before .before .args in
     let l = c .before .before .before .before .before .before .before .loop in
     planning-more (a .costs) (a .envelope) (a .local) (c .before .before .before .before .before .before .before .before .before .before .pre) (l .unused) (l .now) (l .count) (l .all) (l .inv) _ (c .before .before .before .before .before .first-of-greatest .ensures) _ (c .before .before .before .next .given .1) _ (c .before .without .ensures) _ (c .after-step .ensures)
 
--- src/choice.rt:71:1
 returns : tie.Need-returns Inv-loop μ-loop
 returns c = let a = c .before .before .before .before .before .before .before .args in
     let l = c .before .before .before .before .loop in

@@ -9,23 +9,18 @@ use Rattle.planner.proofs.drops.dropped.Reads as dropped-reads
 use Rattle.estimates.proofs.estimator.estimated.Reads as estimated-reads
 use Rattle.planner.proofs.numbers.numbers_at.Reads as numbers-at-reads
 
--- src/drops.rt:119:9
 estimated-requires : tie.Need-estimated-requires
 estimated-requires c κs = search needs
 
--- src/drops.rt:121:9
 numbers-at-requires : tie.Need-numbers-at-requires
 numbers-at-requires c κs = search needs
 
--- src/drops.rt:123:9
 dearest-first-requires : tie.Need-dearest-first-requires
 dearest-first-requires c κs = there-few (c .before .before .before .before .before .args .costs) (c .before .before .before .before .before .args .envelope) (c .before .before .before .before .before .args .program) (c .before .before .before .before .before .pre .1) _ (c .before .before .before .estimated .ensures) _ (c .before .numbers-at .ensures)
 
--- src/drops.rt:125:5
 dropped-requires : tie.Need-dropped-requires
 dropped-requires c κs = (c .before .before .before .before .before .before .before .pre .0, c .before .before .before .before .before .before .before .pre .1, order-few (c .before .before .before .before .before .before .before .args .costs) (c .before .before .before .before .before .before .before .args .envelope) (c .before .before .before .before .before .before .before .args .program) (c .before .before .before .before .before .before .before .pre .1) _ (c .before .before .before .before .before .estimated .ensures) _ (c .before .before .before .numbers-at .ensures) _ (c .before .dearest-first .ensures), total-before (c .before .before .before .before .before .before .before .args .costs) (c .before .before .before .before .before .before .before .args .envelope) (c .before .before .before .before .before .before .before .args .program) (c .before .before .before .before .before .before .before .pre .1) _ (c .before .before .before .before .before .estimated .ensures))
 
--- src/drops.rt:114:1
 returns : tie.Need-returns
 returns c = drops-done (c .before .before .before .before .before .before .before .before .args .costs) (c .before .before .before .before .before .before .before .before .args .envelope) (c .before .before .before .before .before .before .before .before .args .program) (c .before .before .before .before .before .before .before .before .pre .1) _ (c .before .before .before .before .before .before .estimated .ensures) _ (c .before .before .before .before .numbers-at .ensures) _ (c .before .before .dearest-first .ensures) _ (c .dropped .ensures)
 

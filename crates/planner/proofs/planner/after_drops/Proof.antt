@@ -8,19 +8,15 @@ use Rattle.planner.proofs.choice.greedy_steps.Reads as greedy-steps-rea
 use Rattle.planner.proofs.drops.drops.Reads as drops-reads
 use Rattle.planner.proofs.sites.site_for.Reads as site-for-reads
 
--- src/planner.rt:22:9
 greedy-steps-requires : tie.Need-greedy-steps-requires
 greedy-steps-requires c κs = search needs
 
--- src/planner.rt:27:15
 site-for-requires : tie.Need-site-for-requires
 site-for-requires c κs = let s = c .before .before .before .before in greedy-sited (s .args .costs) (s .args .envelope) (s .args .local) (s .pre) _ (c .before .before .before .greedy-steps .ensures)
 
--- src/planner.rt:31:5
 drops-requires : tie.Need-drops-requires
 drops-requires c κs = let s = c .before .before .before .before .before in (s .pre, greedy-acceptable (s .args .costs) (s .args .envelope) (s .args .local) (s .pre) _ (c .before .before .before .before .greedy-steps .ensures) _ (c .site-for .ensures))
 
--- src/planner.rt:18:1
 returns : tie.Need-returns
 returns c = let s = c .before .before .before .before .before .before in after-drops-is (s .args .costs) (s .args .envelope) (s .args .local) (s .pre) _ (c .before .before .before .before .before .greedy-steps .ensures) _ (c .before .site-for .ensures) _ (c .drops .ensures)
 

@@ -9,31 +9,24 @@ use Rattle.envelopes.proofs.reading.check_envelope.Reads as check-envelope-read
 use Rattle.planner.proofs.planner.plan_plainly.Reads as plan-plainly-reads
 use Rattle.planner.proofs.planner.refused.Reads as refused-reads
 
--- src/planner.rt:99:9
 check-envelope-requires : tie.Need-check-envelope-requires
 check-envelope-requires c κs = search needs
 
--- src/planner.rt:102:28
 enum-known-verdict : tie.Need-enum-known-verdict
 enum-known-verdict c = search needs
 
--- src/planner.rt:102:50
 refused-requires : tie.Need-refused-requires
 refused-requires c κs = search needs
 
--- src/planner.rt:104:17
 enum-told : tie.Need-enum-told
 enum-told c = search needs
 
--- src/planner.rt:105:13
 plan-plainly-requires : tie.Need-plan-plainly-requires
 plan-plainly-requires c κs = good-envelope (c .before .before .before .before .args .envelope) _ (c .before .before .before .check-envelope .ensures) (c .before .enum-told .given .1)
 
--- src/planner.rt:96:1
 returns : tie.Need-returns
 returns c = plan-refused (checkEnvelope (c .before .before .before .before .before .args .envelope)) _ (c .before .before .before .before .check-envelope .ensures) _ _ _ (c .before .before .verdict .given .1) (c .refused .ensures)
 
--- src/planner.rt:96:1
 returns-2 : tie.Need-returns-2
 returns-2 c = plan-taken (checkEnvelope (c .before .before .before .before .before .args .envelope)) _ (c .before .before .before .before .check-envelope .ensures) _ (c .before .before .enum-told .given .1) (c .plan-plainly .ensures)
 

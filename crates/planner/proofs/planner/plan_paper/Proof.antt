@@ -10,31 +10,24 @@ use Rattle.envelopes.proofs.reading.read_envelope.Reads as read-envelope-reads
 use Rattle.planner.proofs.planner.plan_plainly.Reads as plan-plainly-reads
 use Rattle.planner.proofs.planner.refused.Reads as refused-reads
 
--- src/planner.rt:113:9
 read-envelope-requires : tie.Need-read-envelope-requires
 read-envelope-requires c κs = search needs
 
--- src/planner.rt:116:28
 enum-known-verdict : tie.Need-enum-known-verdict
 enum-known-verdict c = search needs
 
--- src/planner.rt:116:50
 refused-requires : tie.Need-refused-requires
 refused-requires c κs = search needs
 
--- src/planner.rt:118:17
 enum-told : tie.Need-enum-told
 enum-told c = search needs
 
--- src/planner.rt:119:13
 plan-plainly-requires : tie.Need-plan-plainly-requires
 plan-plainly-requires c κs = good-paper (c .before .before .before .before .before .args .s .now) (λ i h. omega (arith, c .before .before .before .before .shared-slice-known .given i)) _ (c .before .before .before .read-envelope .ensures) (c .before .enum-told .given .1)
 
--- src/planner.rt:110:1
 returns : tie.Need-returns
 returns c = plan-refused (readEnvelope (c .before .before .before .before .before .before .args .s .now)) _ (c .before .before .before .before .read-envelope .ensures) _ _ _ (c .before .before .verdict .given .1) (c .refused .ensures)
 
--- src/planner.rt:110:1
 returns-2 : tie.Need-returns-2
 returns-2 c = plan-taken (readEnvelope (c .before .before .before .before .before .before .args .s .now)) _ (c .before .before .before .before .read-envelope .ensures) _ (c .before .before .enum-told .given .1) (c .plan-plainly .ensures)
 

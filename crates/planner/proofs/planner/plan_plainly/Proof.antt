@@ -9,19 +9,15 @@ use Rattle.estimates.proofs.costs.plain_costs.Reads as plain-costs-reads
 use Rattle.estimates.proofs.locals.local_profile.Reads as local-profile-reads
 use Rattle.planner.proofs.planner.plan_for.Reads as plan-for-reads
 
--- src/planner.rt:76:9
 plain-costs-requires : tie.Need-plain-costs-requires
 plain-costs-requires c κs = search needs
 
--- src/planner.rt:77:9
 local-profile-requires : tie.Need-local-profile-requires
 local-profile-requires c κs = search needs
 
--- src/planner.rt:78:5
 plan-for-requires : tie.Need-plan-for-requires
 plan-for-requires c κs = search (plain-ready, needs)
 
--- src/planner.rt:72:1
 returns : tie.Need-returns
 returns c = search (plain-plan, needs)
 

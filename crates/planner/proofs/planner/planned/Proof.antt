@@ -8,23 +8,18 @@ use Rattle.papers.proofs.programs.no_step.Reads as no-step-reads
 use Rattle.planner.proofs.planner.after_drops.Reads as after-drops-reads
 use Rattle.estimates.proofs.estimator.estimated.Reads as estimated-reads
 
--- src/planner.rt:38:9
 after-drops-requires : tie.Need-after-drops-requires
 after-drops-requires c κs = search needs
 
--- src/planner.rt:39:9
 estimated-requires : tie.Need-estimated-requires
 estimated-requires c κs = let s = c .before in (s .pre .0, after-drops-acceptable (s .args .costs) (s .args .envelope) (s .args .local) (s .pre .0) _ _ (s .pre .1) (s .pre .2) _ (c .after-drops .ensures))
 
--- src/planner.rt:41:9
 returns : tie.Need-returns
 returns c = let s = c .before .before .before .before in planned-below (s .args .costs) (s .args .envelope) (s .args .local) (s .pre .0) _ _ (s .pre .1) (s .pre .2) _ (c .before .before .before .after-drops .ensures) _ (c .before .before .estimated .ensures) (c .if1 .taken)
 
--- src/planner.rt:46:17
 no-step-requires : tie.Need-no-step-requires
 no-step-requires c κs = search needs
 
--- src/planner.rt:34:1
 returns-2 : tie.Need-returns-2
 returns-2 c = let s = c .before .before .before .before .before in planned-home (s .args .costs) (s .args .envelope) (s .args .local) (s .pre .0) _ _ (s .pre .1) (s .pre .2) _ (c .before .before .before .before .after-drops .ensures) _ (c .before .before .before .estimated .ensures) (c .before .if1 .left) _ (c .no-step .ensures)
 

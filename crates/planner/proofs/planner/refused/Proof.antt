@@ -6,11 +6,9 @@ use Rattle.planner.proofs.planner.refused.Reads as reads
 use Rattle.planner.proofs.planner.refused.Lts as lts
 use Rattle.estimates.proofs.lines.no_line.Reads as no-line-reads
 
--- src/planner.rt:88:17
 no-line-requires : tie.Need-no-line-requires
 no-line-requires c κs = search needs
 
--- src/planner.rt:81:1
 returns : tie.Need-returns
 returns c = search (no-plan-is, needs)
 

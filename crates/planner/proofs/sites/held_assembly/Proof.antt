@@ -7,19 +7,15 @@ use Rattle.planner.proofs.sites.held_assembly.Lts as lts
 use Rattle.contents.proofs.sites.holds_relation.Reads as holds-relation-reads
 use Rattle.estimates.proofs.costs.assembly_at.Reads as assembly-at-reads
 
--- src/sites.rt:21:8
 holds-relation-requires : tie.Need-holds-relation-requires
 holds-relation-requires c κs = search needs
 
--- src/sites.rt:22:9
 assembly-at-requires : tie.Need-assembly-at-requires
 assembly-at-requires c κs = search needs
 
--- src/sites.rt:17:1
 returns : tie.Need-returns
 returns c = search (held-there, needs)
 
--- src/sites.rt:17:1
 returns-2 : tie.Need-returns-2
 returns-2 c = search (held-nowhere, needs)
 

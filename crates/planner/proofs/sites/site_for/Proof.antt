@@ -15,27 +15,21 @@ Inv-loop costs envelope profile best₀ least₀ site₀ best least site = Sitin
 abbrev μ-loop : tie.MeasureT-loop
 μ-loop costs envelope profile best₀ least₀ site₀ best least site = 8 - site
 
--- src/sites.rt:35:5
 loop-holds : tie.Need-loop-holds Inv-loop μ-loop
 loop-holds c = search (siting-start, needs)
 
--- src/sites.rt:36:13
 held-assembly-requires : tie.Need-held-assembly-requires Inv-loop μ-loop
 held-assembly-requires c κs = search needs
 
--- src/sites.rt:41:9
 add-site : tie.Need-add-site Inv-loop μ-loop
 add-site c = omega arith
 
--- src/sites.rt:35:5
 loop-less : tie.Need-loop-less Inv-loop μ-loop
 loop-less c = omega arith
 
--- src/sites.rt:35:5
 loop-again : tie.Need-loop-again Inv-loop μ-loop
 loop-again c = ⊎-elim (λ w. search (siting-take, needs)) (λ w. search (siting-stay, needs)) (c .if1 .came)
 
--- src/sites.rt:28:1
 returns : tie.Need-returns Inv-loop μ-loop
 returns c = search (siting-done, needs)
 

@@ -15,55 +15,42 @@ Inv-loop marks i₀ t4 t5 i = i ≤ length marks
 abbrev μ-loop : tie.MeasureT-loop
 μ-loop marks i₀ t4 t5 i = length marks - i
 
--- src/main.rt:44:22
 slice-aggregate-write-all : tie.Need-slice-aggregate-write-all Inv-loop μ-loop
 slice-aggregate-write-all c = omega arith
 
--- src/main.rt:44:5
 write-all-requires : tie.Need-write-all-requires Inv-loop μ-loop
 write-all-requires c κs = search needs
 
--- src/main.rt:46:5
 loop-holds : tie.Need-loop-holds Inv-loop μ-loop
 loop-holds c = omega arith
 
--- src/main.rt:47:26
 slice-aggregate-write-all-2 : tie.Need-slice-aggregate-write-all-2 Inv-loop μ-loop
 slice-aggregate-write-all-2 c = omega arith
 
--- src/main.rt:47:9
 write-all-requires-2 : tie.Need-write-all-requires-2 Inv-loop μ-loop
 write-all-requires-2 c κs = search needs
 
--- src/main.rt:48:20
 shared-slice-read-print-byte : tie.Need-shared-slice-read-print-byte Inv-loop μ-loop
 shared-slice-read-print-byte c = omega arith
 
--- src/main.rt:48:9
 print-byte-requires : tie.Need-print-byte-requires Inv-loop μ-loop
 print-byte-requires c κs = search needs
 
--- src/main.rt:49:9
 add-i : tie.Need-add-i Inv-loop μ-loop
 add-i c = omega arith
 
--- src/main.rt:46:5
 loop-less : tie.Need-loop-less Inv-loop μ-loop
 loop-less c = omega arith
 
--- src/main.rt:46:5
 loop-again : tie.Need-loop-again Inv-loop μ-loop
 loop-again c = omega arith
 
--- src/main.rt:51:22
 slice-aggregate-write-all-3 : tie.Need-slice-aggregate-write-all-3 Inv-loop μ-loop
 slice-aggregate-write-all-3 c = omega arith
 
--- src/main.rt:51:5
 write-all-requires-3 : tie.Need-write-all-requires-3 Inv-loop μ-loop
 write-all-requires-3 c κs = search needs
 
--- src/main.rt:43:1
 returns : tie.Need-returns Inv-loop μ-loop
 returns c = search needs
 

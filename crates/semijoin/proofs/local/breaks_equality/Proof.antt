@@ -6,15 +6,12 @@ use Rattle.semijoin.proofs.local.breaks_equality.Reads as reads
 use Rattle.semijoin.proofs.local.breaks_equality.Lts as lts
 use Rattle.tables.proofs.rows.word_at.Reads as word-at-reads
 
--- src/local.rt:34:9
 word-at-requires : tie.Need-word-at-requires
 word-at-requires c κs = search needs
 
--- src/local.rt:35:9
 word-at-requires-2 : tie.Need-word-at-requires-2
 word-at-requires-2 c κs = search needs
 
--- src/local.rt:30:1
 returns : tie.Need-returns
 returns c = search (unlike-by, needs)
 

@@ -6,11 +6,9 @@ use Rattle.semijoin.proofs.local.breaks_selection.Reads as reads
 use Rattle.semijoin.proofs.local.breaks_selection.Lts as lts
 use Rattle.tables.proofs.rows.word_at.Reads as word-at-reads
 
--- src/local.rt:27:5
 word-at-requires : tie.Need-word-at-requires
 word-at-requires c κs = search needs
 
--- src/local.rt:23:1
 returns : tie.Need-returns
 returns c = search (unlike-by, needs)
 

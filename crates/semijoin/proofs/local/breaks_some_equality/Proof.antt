@@ -21,43 +21,33 @@ Inv-loop tables extent row n all i₀ end i = Looking someFrom (tested (breaksEq
 abbrev μ-loop : tie.MeasureT-loop
 μ-loop tables extent row n all i₀ end i = end - i
 
--- src/local.rt:72:9
 in-use-requires : tie.Need-in-use-requires Inv-loop μ-loop
 in-use-requires c κs = search needs
 
--- src/local.rt:73:5
 loop-holds : tie.Need-loop-holds Inv-loop μ-loop
 loop-holds c = search (looking-start, needs)
 
--- src/local.rt:74:21
 mul-equal : tie.Need-mul-equal Inv-loop μ-loop
 mul-equal c = omega arith
 
--- src/local.rt:74:21
 array-copy-out-equal : tie.Need-array-copy-out-equal Inv-loop μ-loop
 array-copy-out-equal c = search needs
 
--- src/local.rt:75:12
 breaks-equality-requires : tie.Need-breaks-equality-requires Inv-loop μ-loop
 breaks-equality-requires c κs = search needs
 
--- src/local.rt:76:13
 returns : tie.Need-returns Inv-loop μ-loop
 returns c = let a = c .before .before .before .before .before .before .before .args in search (used-found (breaksEqual (getD (rowsOver (a .extent) (a .tables .now)) (a .row) [])) (equal 0 0) (a .t4) 64 (a .n) (omega arith), needs)
 
--- src/local.rt:78:9
 add-i : tie.Need-add-i Inv-loop μ-loop
 add-i c = omega arith
 
--- src/local.rt:73:5
 loop-less : tie.Need-loop-less Inv-loop μ-loop
 loop-less c = omega arith
 
--- src/local.rt:73:5
 loop-again : tie.Need-loop-again Inv-loop μ-loop
 loop-again c = let a = c .before .before .before .before .before .before .before .args in search (used-passed (breaksEqual (getD (rowsOver (a .extent) (a .tables .now)) (a .row) [])) (equal 0 0) (a .t4) 64 (a .n) (omega arith), needs)
 
--- src/local.rt:61:1
 returns-2 : tie.Need-returns-2 Inv-loop μ-loop
 returns-2 c = let a = c .before .before .before .before .args in search (used-none (breaksEqual (getD (rowsOver (a .extent) (a .tables .now)) (a .row) [])) (equal 0 0) (a .t4) 64 (a .n) (omega arith), needs)
 

@@ -21,43 +21,33 @@ Inv-loop tables extent row n all i₀ end i = Looking someFrom (tested (breaksSe
 abbrev μ-loop : tie.MeasureT-loop
 μ-loop tables extent row n all i₀ end i = end - i
 
--- src/local.rt:50:9
 in-use-requires : tie.Need-in-use-requires Inv-loop μ-loop
 in-use-requires c κs = search needs
 
--- src/local.rt:51:5
 loop-holds : tie.Need-loop-holds Inv-loop μ-loop
 loop-holds c = search (looking-start, needs)
 
--- src/local.rt:52:24
 mul-selected : tie.Need-mul-selected Inv-loop μ-loop
 mul-selected c = omega arith
 
--- src/local.rt:52:24
 array-copy-out-selected : tie.Need-array-copy-out-selected Inv-loop μ-loop
 array-copy-out-selected c = search needs
 
--- src/local.rt:53:12
 breaks-selection-requires : tie.Need-breaks-selection-requires Inv-loop μ-loop
 breaks-selection-requires c κs = search needs
 
--- src/local.rt:54:13
 returns : tie.Need-returns Inv-loop μ-loop
 returns c = let a = c .before .before .before .before .before .before .before .args in search (used-found (breaksSelection (getD (rowsOver (a .extent) (a .tables .now)) (a .row) [])) (selected 0 0) (a .t4) 96 (a .n) (omega arith), needs)
 
--- src/local.rt:56:9
 add-i : tie.Need-add-i Inv-loop μ-loop
 add-i c = omega arith
 
--- src/local.rt:51:5
 loop-less : tie.Need-loop-less Inv-loop μ-loop
 loop-less c = omega arith
 
--- src/local.rt:51:5
 loop-again : tie.Need-loop-again Inv-loop μ-loop
 loop-again c = let a = c .before .before .before .before .before .before .before .args in search (used-passed (breaksSelection (getD (rowsOver (a .extent) (a .tables .now)) (a .row) [])) (selected 0 0) (a .t4) 96 (a .n) (omega arith), needs)
 
--- src/local.rt:39:1
 returns-2 : tie.Need-returns-2 Inv-loop μ-loop
 returns-2 c = let a = c .before .before .before .before .args in search (used-none (breaksSelection (getD (rowsOver (a .extent) (a .tables .now)) (a .row) [])) (selected 0 0) (a .t4) 96 (a .n) (omega arith), needs)
 

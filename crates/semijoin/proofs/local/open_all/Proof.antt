@@ -23,43 +23,33 @@ Inv-loop envelope tables marks₀ here labels end relation₀ marks relation = O
 abbrev μ-loop : tie.MeasureT-loop
 μ-loop envelope tables marks₀ here labels end relation₀ marks relation = end - relation
 
--- src/local.rt:134:9
 labels-of-requires : tie.Need-labels-of-requires Inv-loop μ-loop
 labels-of-requires c κs = search needs
 
--- src/local.rt:135:9
 in-use-requires : tie.Need-in-use-requires Inv-loop μ-loop
 in-use-requires c κs = search needs
 
--- src/local.rt:137:5
 loop-holds : tie.Need-loop-holds Inv-loop μ-loop
 loop-holds c = search (opening-all-start, needs)
 
--- src/local.rt:137:12
 cast-loop : tie.Need-cast-loop Inv-loop μ-loop
 cast-loop c = omega arith
 
--- src/local.rt:138:13
 extent-of-requires : tie.Need-extent-of-requires Inv-loop μ-loop
 extent-of-requires c κs = search needs
 
--- src/local.rt:139:13
 selections-by-requires : tie.Need-selections-by-requires Inv-loop μ-loop
 selections-by-requires c κs = search needs
 
--- src/local.rt:140:13
 equalities-by-requires : tie.Need-equalities-by-requires Inv-loop μ-loop
 equalities-by-requires c κs = search needs
 
--- src/local.rt:141:24
 cast-own : tie.Need-cast-own Inv-loop μ-loop
 cast-own c = omega arith
 
--- src/local.rt:141:19
 array-read-own : tie.Need-array-read-own Inv-loop μ-loop
 array-read-own c = omega arith
 
--- src/local.rt:142:9
 open-rows-requires : tie.Need-open-rows-requires Inv-loop μ-loop
 open-rows-requires c κs =
     let s = c .before .before .before .before .before .before .before .before .before .before in
@@ -67,25 +57,20 @@ open-rows-requires c κs =
     let x = c .before .before .before .extent-of .ensures in
     marks-there (s .args .envelope) (s .args .tables .now) _ _ x h _ (omega (arith, c .before .before .before .before .before .loop .inv .long))
 
--- src/local.rt:143:9
 add-relation : tie.Need-add-relation Inv-loop μ-loop
 add-relation c = omega arith
 
--- src/local.rt:137:5
 loop-less : tie.Need-loop-less Inv-loop μ-loop
 loop-less c = omega arith
 
--- src/local.rt:137:5
 loop-again : tie.Need-loop-again Inv-loop μ-loop
 loop-again c =
     let s = c .before .before .before .before .before .before .before .before .before .before .before .before .before in
     opening-all-more (s .args .envelope) (s .args .tables .now) (λ r. getD (s .args .t3) r false) _ _ _ _ (c .before .before .before .before .before .before .before .before .loop .inv) (s .pre .0) _ (c .before .before .before .before .before .before .before .before .before .before .labels-of .ensures) _ (c .before .before .before .before .before .before .extent-of .ensures) _ (c .before .before .before .before .before .selections-by .ensures) _ (c .before .before .before .before .equalities-by .ensures) (c .before .before .before .before .before .before .before .loop-test .taken) _ (c .before .before .open-rows .ensures)
 
--- src/local.rt:130:1
 same-length : tie.Need-same-length Inv-loop μ-loop
 same-length c = c .before .loop .inv .long
 
--- src/local.rt:130:1
 returns : tie.Need-returns Inv-loop μ-loop
 returns c =
     let s = c .before .before .before .before .before .before in

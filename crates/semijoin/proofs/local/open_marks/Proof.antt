@@ -11,47 +11,36 @@ use Rattle.envelopes.proofs.reading.check_envelope.Reads as check-envelope-read
 use Rattle.semijoin.proofs.local.open_all.Reads as open-all-reads
 use Rattle.tables.proofs.shape.judge_marks.Reads as judge-marks-reads
 
--- src/local.rt:148:9
 check-envelope-requires : tie.Need-check-envelope-requires
 check-envelope-requires c κs = search needs
 
--- src/local.rt:151:28
 enum-known-verdict : tie.Need-enum-known-verdict
 enum-known-verdict c = search needs
 
--- src/local.rt:153:17
 enum-told : tie.Need-enum-told
 enum-told c = search needs
 
--- src/local.rt:154:17
 judge-marks-requires : tie.Need-judge-marks-requires
 judge-marks-requires c κs = search needs
 
--- src/local.rt:156:36
 enum-known-found : tie.Need-enum-known-found
 enum-known-found c = search needs
 
--- src/local.rt:158:53
 enum-told-2 : tie.Need-enum-told-2
 enum-told-2 c = search needs
 
--- src/local.rt:158:21
 open-all-requires : tie.Need-open-all-requires
 open-all-requires c κs = (open-within (c .before .before .before .before .before .before .before .before .before .before .args .envelope) (c .before .before .before .before .before .before .before .before .before .before .args .tables .now) (λ r. getD (c .before .before .before .before .before .before .before .before .before .before .args .here) r false) (c .before .before .before .before .before .before .before .before .before .before .args .marks .now) _ (c .before .before .before .before .before .before .before .check-envelope .ensures) (c .before .before .before .before .before .enum-told .given .1), marks-shaped _ (c .before .before .before .before .before .before .before .before .before .before .args .tables .now) _ _ (c .before .enum-told2 .given .1) (c .before .before .before .judge-marks .ensures), marks-room _ (c .before .before .before .before .before .before .before .before .before .before .args .tables .now) _ _ (c .before .enum-told2 .given .1) (c .before .before .before .judge-marks .ensures))
 
--- src/local.rt:145:1
 returns : tie.Need-returns
 returns c = open-envelope (c .before .before .before .before .before .before .args .envelope) (c .before .before .before .before .before .before .args .tables .now) (λ r. getD (c .before .before .before .before .before .before .args .here) r false) (c .before .before .before .before .before .before .args .marks .now) _ (c .before .before .before .check-envelope .ensures) _ _ (c .before .verdict .given .1)
 
--- src/local.rt:145:1
 returns-2 : tie.Need-returns-2
 returns-2 c = open-refused (c .before .before .before .before .before .before .before .before .before .before .args .envelope) (c .before .before .before .before .before .before .before .before .before .before .args .tables .now) (λ r. getD (c .before .before .before .before .before .before .before .before .before .before .args .here) r false) (c .before .before .before .before .before .before .before .before .before .before .args .marks .now) _ (c .before .before .before .before .before .before .before .check-envelope .ensures) (c .before .before .before .before .before .enum-told .given .1) _ (c .before .before .before .judge-marks .ensures) _ _ (c .before .found .given .1)
 
--- src/local.rt:145:1
 same-length : tie.Need-same-length
 same-length c = search needs
 
--- src/local.rt:145:1
 returns-3 : tie.Need-returns-3
 returns-3 c = open-taken (c .before .before .before .before .before .before .before .before .before .before .before .before .before .args .envelope) (c .before .before .before .before .before .before .before .before .before .before .before .before .before .args .tables .now) (λ r. getD (c .before .before .before .before .before .before .before .before .before .before .before .before .before .args .here) r false) (c .before .before .before .before .before .before .before .before .before .before .before .before .before .args .marks .now) _ (c .before .before .before .before .before .before .before .before .before .before .check-envelope .ensures) (c .before .before .before .before .before .before .before .before .enum-told .given .1) _ (c .before .before .before .before .before .before .judge-marks .ensures) (c .before .before .before .before .enum-told2 .given .1) _ (c .before .before .open-all .ensures)
 

@@ -16,39 +16,30 @@ Inv-loop tables extent here selections equalities marks₀ row₀ marks row = Op
 abbrev μ-loop : tie.MeasureT-loop
 μ-loop tables extent here selections equalities marks₀ row₀ marks row = extent .rows - row
 
--- src/local.rt:122:5
 loop-holds : tie.Need-loop-holds Inv-loop μ-loop
 loop-holds c = search (opening-start, needs)
 
--- src/local.rt:123:13
 opening-mark-requires : tie.Need-opening-mark-requires Inv-loop μ-loop
 opening-mark-requires c κs = search needs
 
--- src/local.rt:124:15
 add-marks : tie.Need-add-marks Inv-loop μ-loop
 add-marks c = omega arith
 
--- src/local.rt:124:9
 slice-write-marks : tie.Need-slice-write-marks Inv-loop μ-loop
 slice-write-marks c = omega arith
 
--- src/local.rt:125:9
 add-row : tie.Need-add-row Inv-loop μ-loop
 add-row c = omega arith
 
--- src/local.rt:122:5
 loop-less : tie.Need-loop-less Inv-loop μ-loop
 loop-less c = omega arith
 
--- src/local.rt:122:5
 loop-again : tie.Need-loop-again Inv-loop μ-loop
 loop-again c = search (opening-more, needs)
 
--- src/local.rt:110:1
 same-length : tie.Need-same-length Inv-loop μ-loop
 same-length c = omega arith
 
--- src/local.rt:110:1
 returns : tie.Need-returns Inv-loop μ-loop
 returns c = search (opening-done, needs)
 

@@ -7,27 +7,21 @@ use Rattle.semijoin.proofs.local.opening_mark.Lts as lts
 use Rattle.semijoin.proofs.local.breaks_some_equality.Reads as breaks-some-equality-reads
 use Rattle.semijoin.proofs.local.breaks_some_selection.Reads as breaks-some-selection-reads
 
--- src/local.rt:96:9
 returns : tie.Need-returns
 returns c = search (opening-elsewhere, needs)
 
--- src/local.rt:99:8
 breaks-some-selection-requires : tie.Need-breaks-some-selection-requires
 breaks-some-selection-requires c κs = search needs
 
--- src/local.rt:100:9
 returns-2 : tie.Need-returns-2
 returns-2 c = search (opening-unselected, needs)
 
--- src/local.rt:103:8
 breaks-some-equality-requires : tie.Need-breaks-some-equality-requires
 breaks-some-equality-requires c κs = search needs
 
--- src/local.rt:104:9
 returns-3 : tie.Need-returns-3
 returns-3 c = search (opening-unequal, needs)
 
--- src/local.rt:84:1
 returns-4 : tie.Need-returns-4
 returns-4 c = search (opening-passes, needs)
 

@@ -16,48 +16,38 @@ Inv-loop envelope n tables marks₀ steps end i₀ marks i = Taking envelope tab
 abbrev μ-loop : tie.MeasureT-loop
 μ-loop envelope n tables marks₀ steps end i₀ marks i = end - i
 
--- src/run.rt:25:9
 in-use-requires : tie.Need-in-use-requires Inv-loop μ-loop
 in-use-requires c κs = search needs
 
--- src/run.rt:27:5
 loop-holds : tie.Need-loop-holds Inv-loop μ-loop
 loop-holds c = search (taking-start, needs)
 
--- src/run.rt:28:20
 mul-step : tie.Need-mul-step Inv-loop μ-loop
 mul-step c = omega arith
 
--- src/run.rt:28:20
 array-copy-out-step : tie.Need-array-copy-out-step Inv-loop μ-loop
 array-copy-out-step c = search needs
 
--- src/run.rt:29:9
 take-step-requires : tie.Need-take-step-requires Inv-loop μ-loop
 take-step-requires c κs =
     let s = c .before .before .before .before .before .before .before in
     let r = taking-legal (s .args .envelope) (s .args .tables .now) (s .args .t2) (s .args .n) (s .args .marks .now) (omega arith) _ _ (c .before .before .before .loop .inv) (omega (arith, c .before .before .before .before .in-use .ensures)) (s .pre .2) in
     (search needs, search needs, r .left, r .right)
 
--- src/run.rt:30:9
 add-i : tie.Need-add-i Inv-loop μ-loop
 add-i c = omega arith
 
--- src/run.rt:27:5
 loop-less : tie.Need-loop-less Inv-loop μ-loop
 loop-less c = omega arith
 
--- src/run.rt:27:5
 loop-again : tie.Need-loop-again Inv-loop μ-loop
 loop-again c =
     let s = c .before .before .before .before .before .before .before .before .before .before in
     taking-more (s .args .envelope) (s .args .tables .now) (s .args .t2) (s .args .n) (s .args .marks .now) (omega arith) _ _ (c .before .before .before .before .before .before .loop .inv) (omega (arith, c .before .before .before .before .before .before .before .in-use .ensures)) _ (c .before .before .take-step .ensures)
 
--- src/run.rt:21:1
 same-length : tie.Need-same-length Inv-loop μ-loop
 same-length c = omega arith
 
--- src/run.rt:21:1
 returns : tie.Need-returns Inv-loop μ-loop
 returns c =
     let s = c .before .before .before .before .before in

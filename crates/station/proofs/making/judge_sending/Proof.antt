@@ -7,31 +7,24 @@ use Rattle.station.proofs.making.judge_sending.Lts as lts
 use Rattle.ends.proofs.ends.applied_of.Reads as applied-of-reads
 use Rattle.ends.proofs.reducing.missing_of.Reads as missing-of-reads
 
--- src/making.rt:37:9
 returns : tie.Need-returns
 returns c = search (sending-not, sending-waits, sending-may, needs)
 
--- src/making.rt:42:9
 applied-of-requires : tie.Need-applied-of-requires
 applied-of-requires c κs = search needs
 
--- src/making.rt:43:9
 missing-of-requires : tie.Need-missing-of-requires
 missing-of-requires c κs = search needs
 
--- src/making.rt:45:24
 enum-known-missing : tie.Need-enum-known-missing
 enum-known-missing c = search needs
 
--- src/making.rt:49:26
 enum-told : tie.Need-enum-told
 enum-told c = search needs
 
--- src/making.rt:27:1
 returns-2 : tie.Need-returns-2
 returns-2 c = search (sending-not, sending-waits, sending-may, needs)
 
--- src/making.rt:27:1
 returns-3 : tie.Need-returns-3
 returns-3 c = search (sending-not, sending-waits, sending-may, needs)
 

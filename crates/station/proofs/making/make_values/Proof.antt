@@ -8,31 +8,24 @@ use Rattle.station.proofs.making.make_values.Lts as lts
 use Rattle.ends.proofs.ends.usable_end.Reads as usable-end-reads
 use Rattle.station.proofs.making.values_with.Reads as values-with-reads
 
--- src/making.rt:108:9
 usable-end-requires : tie.Need-usable-end-requires
 usable-end-requires c κs = search needs
 
--- src/making.rt:111:28
 enum-known-verdict : tie.Need-enum-known-verdict
 enum-known-verdict c = search needs
 
--- src/making.rt:113:17
 enum-told : tie.Need-enum-told
 enum-told c = search needs
 
--- src/making.rt:114:13
 values-with-requires : tie.Need-values-with-requires
 values-with-requires c κs = usable-known _ _ _ _ (c .before .before .before .before .usable-end .ensures) (c .before .before .enum-told .given .1)
 
--- src/making.rt:99:1
 returns : tie.Need-returns
 returns c = make-refused _ _ _ _ _ _ (c .before .before .before .usable-end .ensures) _ _ (c .before .verdict .given .1)
 
--- src/making.rt:99:1
 same-length : tie.Need-same-length
 same-length c = search needs
 
--- src/making.rt:99:1
 returns-2 : tie.Need-returns-2
 returns-2 c = make-with _ _ _ _ _ _ (c .before .before .before .before .before .before .before .usable-end .ensures) (c .before .before .before .before .before .enum-told .given .1) _ _ (c .before .before .values-with .ensures)
 

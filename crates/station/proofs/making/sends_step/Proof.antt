@@ -7,23 +7,18 @@ use Rattle.station.proofs.making.sends_step.Lts as lts
 use Rattle.contents.proofs.sites.is_at.Reads as is-at-reads
 use Rattle.ends.proofs.reducing.step_count.Reads as step-count-reads
 
--- src/making.rt:57:8
 step-count-requires : tie.Need-step-count-requires
 step-count-requires c κs = search needs
 
--- src/making.rt:57:8
 cast-if1 : tie.Need-cast-if1
 cast-if1 c = search needs
 
--- src/making.rt:58:9
 returns : tie.Need-returns
 returns c = search (sends-none, needs)
 
--- src/making.rt:60:5
 is-at-requires : tie.Need-is-at-requires
 is-at-requires c κs = search needs
 
--- src/making.rt:54:1
 returns-2 : tie.Need-returns-2
 returns-2 c = search (sends-here, needs)
 

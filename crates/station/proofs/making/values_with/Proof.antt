@@ -11,67 +11,51 @@ use Rattle.station.proofs.making.sends_step.Reads as sends-step-reads
 use Rattle.ends.proofs.messages.put_front.Reads as put-front-reads
 use Rattle.ends.proofs.reducing.step_of.Reads as step-of-reads
 
--- src/making.rt:79:9
 step-of-requires : tie.Need-step-of-requires
 step-of-requires c κs = search needs
 
--- src/making.rt:81:9
 sends-step-requires : tie.Need-sends-step-requires
 sends-step-requires c κs = search needs
 
--- src/making.rt:82:9
 judge-sending-requires : tie.Need-judge-sending-requires
 judge-sending-requires c κs = search needs
 
--- src/making.rt:84:28
 enum-known-verdict : tie.Need-enum-known-verdict
 enum-known-verdict c = search needs
 
--- src/making.rt:86:93
 enum-told : tie.Need-enum-told
 enum-told c = search needs
 
--- src/making.rt:86:17
 values-into-requires : tie.Need-values-into-requires
 values-into-requires c κs = search needs
 
--- src/making.rt:88:37
 enum-known-gathered : tie.Need-enum-known-gathered
 enum-known-gathered c = search needs
 
--- src/making.rt:89:34
 enum-known-gathered-2 : tie.Need-enum-known-gathered-2
 enum-known-gathered-2 c = search needs
 
--- src/making.rt:90:72
 cast-put-front : tie.Need-cast-put-front
 cast-put-front c = omega (arith, values-few _ (c .before .before .before .before .before .before .before .before .before .before .before .before .before .before .before .before .before .before .before .before .args .end) _ _ _ _ (c .before .before .before .before .before .before .before .before .before .before .before .before .before .before .before .before .before .before .before .before .pre) _ (c .before .before .before .before .before .before .before .before .before .before .before .before .before .step-of .ensures) _ (c .before .before .before .before .before .before .before .before .before .before .before .sends-step .ensures) _ (c .before .before .before .before .before .before .before .before .before .before .judge-sending .ensures) (c .before .before .before .before .before .before .before .before .enum-told .given .1) _ _ (c .before .before .before .before .before .before .values-into .ensures .0) (c .before .before .before .before .before .before .values-into .ensures .1) _ (c .before .before .gathered2 .given .1))
 
--- src/making.rt:90:21
 put-front-requires : tie.Need-put-front-requires
 put-front-requires c κs = search needs
 
--- src/making.rt:91:34
 add-t29 : tie.Need-add-t29
 add-t29 c = omega (arith, values-few _ (c .before .before .before .before .before .before .before .before .before .before .before .before .before .before .before .before .before .before .before .before .before .before .before .args .end) _ _ _ _ (c .before .before .before .before .before .before .before .before .before .before .before .before .before .before .before .before .before .before .before .before .before .before .before .pre) _ (c .before .before .before .before .before .before .before .before .before .before .before .before .before .before .before .before .step-of .ensures) _ (c .before .before .before .before .before .before .before .before .before .before .before .before .before .before .sends-step .ensures) _ (c .before .before .before .before .before .before .before .before .before .before .before .before .before .judge-sending .ensures) (c .before .before .before .before .before .before .before .before .before .before .before .enum-told .given .1) _ _ (c .before .before .before .before .before .before .before .before .before .values-into .ensures .0) (c .before .before .before .before .before .before .before .before .before .values-into .ensures .1) _ (c .before .before .before .before .before .gathered2 .given .1))
 
--- src/making.rt:64:1
 returns : tie.Need-returns
 returns c = values-waits _ _ _ _ _ _ (c .before .before .before .before .before .before .before .before .before .before .before .before .before .pre) _ (c .before .before .before .before .before .before .step-of .ensures) _ (c .before .before .before .before .sends-step .ensures) _ (c .before .before .before .judge-sending .ensures) _ _ (c .before .verdict .given .1)
 
--- src/making.rt:64:1
 same-length : tie.Need-same-length
 same-length c = search needs
 
--- src/making.rt:64:1
 returns-2 : tie.Need-returns-2
 returns-2 c = values-none _ _ _ _ _ _ (c .before .before .before .before .before .before .before .before .before .before .before .before .before .before .before .before .before .before .before .pre) _ (c .before .before .before .before .before .before .before .before .before .before .before .before .step-of .ensures) _ (c .before .before .before .before .before .before .before .before .before .before .sends-step .ensures) _ (c .before .before .before .before .before .before .before .before .before .judge-sending .ensures) (c .before .before .before .before .before .before .before .enum-told .given .1) _ _ (c .before .before .before .before .before .values-into .ensures .0) (c .before .before .before .before .before .values-into .ensures .1) _ _ (c .before .gathered .given .1)
 
--- src/making.rt:64:1
 same-length-2 : tie.Need-same-length-2
 same-length-2 c = search needs
 
--- src/making.rt:64:1
 returns-3 : tie.Need-returns-3
 returns-3 c = values-made _ _ _ _ _ _ (c .before .before .before .before .before .before .before .before .before .before .before .before .before .before .before .before .before .before .before .before .before .before .before .pre) _ (c .before .before .before .before .before .before .before .before .before .before .before .before .before .before .before .before .step-of .ensures) _ (c .before .before .before .before .before .before .before .before .before .before .before .before .before .before .sends-step .ensures) _ (c .before .before .before .before .before .before .before .before .before .before .before .before .before .judge-sending .ensures) (c .before .before .before .before .before .before .before .before .before .before .before .enum-told .given .1) _ _ (c .before .before .before .before .before .before .before .before .before .values-into .ensures .0) (c .before .before .before .before .before .before .before .before .before .values-into .ensures .1) _ (c .before .before .before .before .before .gathered2 .given .1) _ (c .before .before .put-front .ensures)
 

@@ -8,35 +8,27 @@ use Rattle.papers.proofs.checks.check_papers.Reads as check-papers-reads
 use Rattle.station.proofs.opening.open_with.Reads as open-with-reads
 use Rattle.station.proofs.opening.refused_opening.Reads as refused-opening-reads
 
--- src/opening.rt:106:9
 check-papers-requires : tie.Need-check-papers-requires
 check-papers-requires c κs = search needs
 
--- src/opening.rt:109:28
 enum-known-verdict : tie.Need-enum-known-verdict
 enum-known-verdict c = search needs
 
--- src/opening.rt:109:50
 refused-opening-requires : tie.Need-refused-opening-requires
 refused-opening-requires c κs = search needs
 
--- src/opening.rt:111:17
 enum-told : tie.Need-enum-told
 enum-told c = search needs
 
--- src/opening.rt:112:13
 open-with-requires : tie.Need-open-with-requires
 open-with-requires c κs = open-good _ _ _ (c .before .before .before .before .check-papers .ensures) (c .before .before .enum-told .given .1)
 
--- src/opening.rt:96:1
 returns : tie.Need-returns
 returns c = open-papers _ _ _ _ _ _ _ (c .before .before .before .before .check-papers .ensures) _ _ _ (c .before .before .verdict .given .1) (c .refused-opening .ensures)
 
--- src/opening.rt:96:1
 same-length : tie.Need-same-length
 same-length c = search needs
 
--- src/opening.rt:96:1
 returns-2 : tie.Need-returns-2
 returns-2 c = open-with _ _ _ _ _ _ _ (c .before .before .before .before .before .before .before .check-papers .ensures) (c .before .before .before .before .before .enum-told .given .1) _ _ (c .before .before .open-with .ensures .0) (c .before .before .open-with .ensures .1)
 

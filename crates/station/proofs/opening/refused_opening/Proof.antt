@@ -6,11 +6,9 @@ use Rattle.station.proofs.opening.refused_opening.Reads as reads
 use Rattle.station.proofs.opening.refused_opening.Lts as lts
 use Rattle.ends.proofs.ends.no_end.Reads as no-end-reads
 
--- src/opening.rt:24:9
 no-end-requires : tie.Need-no-end-requires
 no-end-requires c κs = search needs
 
--- src/opening.rt:21:1
 returns : tie.Need-returns
 returns c = search (opened-none, needs)
 

@@ -16,47 +16,36 @@ Inv-loop store₀ used message i₀ p₀ store i p = Copying message store₀ us
 abbrev μ-loop : tie.MeasureT-loop
 μ-loop store₀ used message i₀ p₀ store i p = length message - i
 
--- src/receiving.rt:156:5
 loop-holds : tie.Need-loop-holds Inv-loop μ-loop
 loop-holds c = search (copying-start, needs)
 
--- src/receiving.rt:157:20
 mul-store : tie.Need-mul-store Inv-loop μ-loop
 mul-store c = omega arith
 
--- src/receiving.rt:157:20
 shared-slice-read-store : tie.Need-shared-slice-read-store Inv-loop μ-loop
 shared-slice-read-store c = omega arith
 
--- src/receiving.rt:157:9
 mul-store-2 : tie.Need-mul-store-2 Inv-loop μ-loop
 mul-store-2 c = omega arith
 
--- src/receiving.rt:157:9
 slice-write-store : tie.Need-slice-write-store Inv-loop μ-loop
 slice-write-store c = append-place _ _ _ _ _ _ (c .before .before .loop .inv) (c .before .loop-test .taken) (c .before .before .before .pre)
 
--- src/receiving.rt:158:9
 add-p : tie.Need-add-p Inv-loop μ-loop
 add-p c = omega (arith, append-place _ _ _ _ _ _ (c .before .before .loop .inv) (c .before .loop-test .taken) (c .before .before .before .pre))
 
--- src/receiving.rt:159:9
 add-i : tie.Need-add-i Inv-loop μ-loop
 add-i c = omega arith
 
--- src/receiving.rt:156:5
 loop-less : tie.Need-loop-less Inv-loop μ-loop
 loop-less c = omega arith
 
--- src/receiving.rt:156:5
 loop-again : tie.Need-loop-again Inv-loop μ-loop
 loop-again c = copying-more _ _ _ _ _ _ _ (c .before .before .loop .inv) 0 (c .before .loop-test .taken)
 
--- src/receiving.rt:150:1
 same-length : tie.Need-same-length Inv-loop μ-loop
 same-length c = search (copying-length, needs)
 
--- src/receiving.rt:150:1
 returns : tie.Need-returns Inv-loop μ-loop
 returns c = append-done _ _ _ _ _ _ (c .before .loop .inv) (c .loop-test .left)
 

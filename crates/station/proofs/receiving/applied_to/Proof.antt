@@ -5,15 +5,12 @@ use Rattle.station.proofs.receiving.applied_to.Tie as tie
 use Rattle.station.proofs.receiving.applied_to.Reads as reads
 use Rattle.station.proofs.receiving.applied_to.Lts as lts
 
--- src/receiving.rt:59:5
 mul-applied : tie.Need-mul-applied
 mul-applied c = search needs
 
--- src/receiving.rt:59:5
 array-write-applied : tie.Need-array-write-applied
 array-write-applied c = search needs
 
--- src/receiving.rt:51:1
 returns : tie.Need-returns
 returns c = applied-is _ _ _
 

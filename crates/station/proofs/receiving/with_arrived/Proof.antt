@@ -5,15 +5,12 @@ use Rattle.station.proofs.receiving.with_arrived.Tie as tie
 use Rattle.station.proofs.receiving.with_arrived.Reads as reads
 use Rattle.station.proofs.receiving.with_arrived.Lts as lts
 
--- src/receiving.rt:80:5
 array-write-arrived : tie.Need-array-write-arrived
 array-write-arrived c = search needs
 
--- src/receiving.rt:88:15
 add-t8 : tie.Need-add-t8
 add-t8 c = search needs
 
--- src/receiving.rt:72:1
 returns : tie.Need-returns
 returns c = arrived-is _ _ _
 

@@ -1,7 +1,7 @@
 use Prim.Native.Nat.{_-_}
 use mathlib.Core.Logic.{⊎-elim}
 use Rattle.tables.specs.Rows.{keptOver}
-use Rattle.ends.proofs.CountingLaws.{Counting, counting-start, counting-most, counting-done}
+use Rattle.ground.proofs.CountingLaws.{Counting, counting-start, counting-most, counting-done}
 use Rattle.station.proofs.RowCodeLaws.{kept-counted, kept-passed}
 use borrow.Author.Needs.{needs}
 use native.Mathlib.Omega.{arith}
@@ -17,31 +17,24 @@ Inv-loop marks extent n₀ row₀ n row = Counting (keptOver extent marks) (exte
 abbrev μ-loop : tie.MeasureT-loop
 μ-loop marks extent n₀ row₀ n row = extent .rows - row
 
--- src/rows.rt:26:5
 loop-holds : tie.Need-loop-holds Inv-loop μ-loop
 loop-holds c = search (counting-start, needs)
 
--- src/rows.rt:27:12
 is-kept-requires : tie.Need-is-kept-requires Inv-loop μ-loop
 is-kept-requires c κs = search needs
 
--- src/rows.rt:28:13
 add-n : tie.Need-add-n Inv-loop μ-loop
 add-n c = omega (arith, counting-most _ _ _ _ (c .before .before .before .before .loop .inv))
 
--- src/rows.rt:30:9
 add-row : tie.Need-add-row Inv-loop μ-loop
 add-row c = omega arith
 
--- src/rows.rt:26:5
 loop-less : tie.Need-loop-less Inv-loop μ-loop
 loop-less c = omega arith
 
--- src/rows.rt:26:5
 loop-again : tie.Need-loop-again Inv-loop μ-loop
 loop-again c = ⊎-elim (λ w. search (kept-counted, needs)) (λ w. search (kept-passed, needs)) (c .if2 .came)
 
--- src/rows.rt:21:1
 returns : tie.Need-returns Inv-loop μ-loop
 returns c = search (counting-done, needs)
 

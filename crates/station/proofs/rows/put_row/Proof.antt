@@ -20,51 +20,39 @@ Inv-loop tables extent row count at message₀ numbers end i₀ p₀ message i p
 abbrev μ-loop : tie.MeasureT-loop
 μ-loop tables extent row count at message₀ numbers end i₀ p₀ message i p = end - i
 
--- src/rows.rt:48:9
 in-use-requires : tie.Need-in-use-requires Inv-loop μ-loop
 in-use-requires c κs = search needs
 
--- src/rows.rt:51:5
 loop-holds : tie.Need-loop-holds Inv-loop μ-loop
 loop-holds c = search (row-start, needs)
 
--- src/rows.rt:52:22
 array-read-column : tie.Need-array-read-column Inv-loop μ-loop
 array-read-column c = omega (arith, c .before .before .in-use .ensures)
 
--- src/rows.rt:53:22
 word-at-requires : tie.Need-word-at-requires Inv-loop μ-loop
 word-at-requires c κs = search needs
 
--- src/rows.rt:53:9
 mul-message : tie.Need-mul-message Inv-loop μ-loop
 mul-message c = omega arith
 
--- src/rows.rt:53:9
 slice-write-message : tie.Need-slice-write-message Inv-loop μ-loop
 slice-write-message c = search (row-place, needs)
 
--- src/rows.rt:54:9
 add-p : tie.Need-add-p Inv-loop μ-loop
 add-p c = let h : c .before .before .loop .p < length (c .before .before .loop .message) = search (row-place, needs) in omega arith
 
--- src/rows.rt:55:9
 add-i : tie.Need-add-i Inv-loop μ-loop
 add-i c = omega arith
 
--- src/rows.rt:51:5
 loop-less : tie.Need-loop-less Inv-loop μ-loop
 loop-less c = omega arith
 
--- src/rows.rt:51:5
 loop-again : tie.Need-loop-again Inv-loop μ-loop
 loop-again c = search (row-more, needs)
 
--- src/rows.rt:36:1
 same-length : tie.Need-same-length Inv-loop μ-loop
 same-length c = search (copying-length, needs)
 
--- src/rows.rt:36:1
 returns : tie.Need-returns Inv-loop μ-loop
 returns c = search (row-done, needs)
 

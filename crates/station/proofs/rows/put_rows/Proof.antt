@@ -17,43 +17,33 @@ Inv-loop tables marks extent numbers count message₀ width at₀ row₀ message
 abbrev μ-loop : tie.MeasureT-loop
 μ-loop tables marks extent numbers count message₀ width at₀ row₀ message at row = extent .rows - row
 
--- src/rows.rt:71:9
 in-use-requires : tie.Need-in-use-requires Inv-loop μ-loop
 in-use-requires c κs = search needs
 
--- src/rows.rt:74:5
 loop-holds : tie.Need-loop-holds Inv-loop μ-loop
 loop-holds c = search (shipping-start, needs)
 
--- src/rows.rt:75:13
 is-kept-requires : tie.Need-is-kept-requires Inv-loop μ-loop
 is-kept-requires c κs = search needs
 
--- src/rows.rt:77:13
 put-row-requires : tie.Need-put-row-requires Inv-loop μ-loop
 put-row-requires c κs = search (shipping-room, needs)
 
--- src/rows.rt:78:13
 add-at : tie.Need-add-at Inv-loop μ-loop
 add-at c = omega (arith, shipping-fits _ _ _ _ _ _ _ _ _ (c .before .before .before .before .before .before .before .before .loop .inv) (c .before .before .before .before .before .before .if1 .taken) _ (c .before .before .before .before .before .is-kept .ensures) (c .before .before .before .before .if2 .taken) (c .before .before .before .before .before .before .before .before .before .before .before .before .before .pre) _ (c .before .before .before .before .before .before .before .before .before .in-use .ensures) (omega arith))
 
--- src/rows.rt:80:9
 add-row : tie.Need-add-row Inv-loop μ-loop
 add-row c = omega arith
 
--- src/rows.rt:74:5
 loop-less : tie.Need-loop-less Inv-loop μ-loop
 loop-less c = omega arith
 
--- src/rows.rt:74:5
 loop-again : tie.Need-loop-again Inv-loop μ-loop
 loop-again c = ⊎-elim (λ w. shipping-yes _ _ _ _ _ _ _ _ _ (c .before .before .before .before .loop .inv) (c .before .before .if1 .taken) _ (c .before .is-kept .ensures) (w .0 .taken) _ _ (w .5) (w .2 .ensures) _ _ (c .before .before .before .before .before .in-use .ensures) (omega arith) (w .6)) (λ w. search (shipping-no, needs)) (c .if2 .came)
 
--- src/rows.rt:60:1
 same-length : tie.Need-same-length Inv-loop μ-loop
 same-length c = search (shipping-long, needs)
 
--- src/rows.rt:60:1
 returns : tie.Need-returns Inv-loop μ-loop
 returns c = shipping-done _ _ _ _ _ _ _ _ _ (c .before .before .loop .inv) (c .if1 .left)
 

@@ -6,27 +6,21 @@ use Rattle.tables.proofs.offsets.count_in.Reads as reads
 use Rattle.tables.proofs.offsets.count_in.Lts as lts
 use Rattle.ground.proofs.used.in_use.Reads as in-use-reads
 
--- src/offsets.rt:20:8
 in-use-requires : tie.Need-in-use-requires
 in-use-requires c κs = search needs
 
--- src/offsets.rt:21:9
 returns : tie.Need-returns
 returns c = search (count-none, needs)
 
--- src/offsets.rt:24:9
 returns-2 : tie.Need-returns-2
 returns-2 c = search (count-short, needs)
 
--- src/offsets.rt:26:5
 mul-result : tie.Need-mul-result
 mul-result c = search needs
 
--- src/offsets.rt:26:5
 shared-slice-read-result : tie.Need-shared-slice-read-result
 shared-slice-read-result c = search needs
 
--- src/offsets.rt:16:1
 returns-3 : tie.Need-returns-3
 returns-3 c = search (count-is, needs)
 

@@ -16,75 +16,57 @@ Inv-loop envelope tables relation word₀ mark₀ i₀ word mark i = (i ≤ rela
 abbrev μ-loop : tie.MeasureT-loop
 μ-loop envelope tables relation word₀ mark₀ i₀ word mark i = relation - i
 
--- src/offsets.rt:33:9
 in-use-requires : tie.Need-in-use-requires Inv-loop μ-loop
 in-use-requires c κs = search needs
 
--- src/offsets.rt:36:5
 loop-holds : tie.Need-loop-holds Inv-loop μ-loop
 loop-holds c = (omega arith, adding-start _ _ _ (c .in-use .ensures))
 
--- src/offsets.rt:37:13
 columns-in-requires : tie.Need-columns-in-requires Inv-loop μ-loop
 columns-in-requires c κs = search needs
 
--- src/offsets.rt:38:13
 count-in-requires : tie.Need-count-in-requires Inv-loop μ-loop
 count-in-requires c κs = search needs
 
--- src/offsets.rt:39:17
 cast-word : tie.Need-cast-word Inv-loop μ-loop
 cast-word c = omega arith
 
--- src/offsets.rt:39:33
 cast-word-2 : tie.Need-cast-word-2 Inv-loop μ-loop
 cast-word-2 c = omega arith
 
--- src/offsets.rt:39:17
 mul-word : tie.Need-mul-word Inv-loop μ-loop
 mul-word c = omega (arith, words-fit-in _ _ (c .count-in .result) (c .before .columns-in .result) (c .before .columns-in .ensures) (omega arith))
 
--- src/offsets.rt:39:9
 add-word : tie.Need-add-word Inv-loop μ-loop
 add-word c = omega (arith, words-fit-in _ _ (c .count-in .result) (c .before .columns-in .result) (c .before .columns-in .ensures) (omega arith))
 
--- src/offsets.rt:40:17
 cast-mark : tie.Need-cast-mark Inv-loop μ-loop
 cast-mark c = omega arith
 
--- src/offsets.rt:40:9
 add-mark : tie.Need-add-mark Inv-loop μ-loop
 add-mark c = omega arith
 
--- src/offsets.rt:41:9
 add-i : tie.Need-add-i Inv-loop μ-loop
 add-i c = omega arith
 
--- src/offsets.rt:36:5
 loop-less : tie.Need-loop-less Inv-loop μ-loop
 loop-less c = omega arith
 
--- src/offsets.rt:36:5
 loop-again : tie.Need-loop-again Inv-loop μ-loop
 loop-again c = search (adding-more, needs)
 
--- src/offsets.rt:43:9
 columns-in-requires-2 : tie.Need-columns-in-requires-2 Inv-loop μ-loop
 columns-in-requires-2 c κs = search needs
 
--- src/offsets.rt:44:9
 count-in-requires-2 : tie.Need-count-in-requires-2 Inv-loop μ-loop
 count-in-requires-2 c κs = search needs
 
--- src/offsets.rt:46:18
 cast-t15 : tie.Need-cast-t15 Inv-loop μ-loop
 cast-t15 c = omega arith
 
--- src/offsets.rt:47:15
 cast-t16 : tie.Need-cast-t16 Inv-loop μ-loop
 cast-t16 c = omega arith
 
--- src/offsets.rt:30:1
 returns : tie.Need-returns Inv-loop μ-loop
 returns c = search (extent-is, needs)
 

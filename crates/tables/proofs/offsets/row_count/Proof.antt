@@ -9,19 +9,15 @@ use Rattle.tables.proofs.offsets.row_count.Lts as lts
 use Rattle.ground.proofs.used.in_use.Reads as in-use-reads
 use Rattle.tables.proofs.offsets.extent_of.Reads as extent-of-reads
 
--- src/offsets.rt:57:9
 in-use-requires : tie.Need-in-use-requires
 in-use-requires c κs = search needs
 
--- src/offsets.rt:58:43
 cast-extent-of : tie.Need-cast-extent-of
 cast-extent-of c = search needs
 
--- src/offsets.rt:58:9
 extent-of-requires : tie.Need-extent-of-requires
 extent-of-requires c κs = search needs
 
--- src/offsets.rt:54:1
 returns : tie.Need-returns
 returns c = ap (λ (x : Extent). x .mark) (c .extent-of .ensures) ∙ ap (rowsBefore _ _) (c .before .in-use .ensures)
 

@@ -1,5 +1,5 @@
 use borrow.Author.Needs.{needs}
-use Rattle.tables.proofs.RisingCodeLaws.{Rising, rising-start, rising-not, rising-more, rising-done}
+use Rattle.tables.proofs.RisingCodeLaws.{StillRising, rising-start, rising-not, rising-more, rising-done}
 use lib.ListN.{length}
 use Prim.Native.Nat.{_-_}
 use native.Mathlib.Omega.{arith}
@@ -9,48 +9,38 @@ use Rattle.tables.proofs.rising.is_rising.Reads as reads
 use Rattle.tables.proofs.rising.is_rising.Lts as lts
 
 abbrev Inv-loop : tie.InvT-loop
-Inv-loop values low₀ i₀ low i = Rising values low i
+Inv-loop values low₀ i₀ low i = StillRising values low i
 
 abbrev μ-loop : tie.MeasureT-loop
 μ-loop values low₀ i₀ low i = length values - i
 
--- src/rising.rt:12:5
 loop-holds : tie.Need-loop-holds Inv-loop μ-loop
 loop-holds c = search (rising-start, needs)
 
--- src/rising.rt:13:21
 mul-value : tie.Need-mul-value Inv-loop μ-loop
 mul-value c = omega arith
 
--- src/rising.rt:13:21
 shared-slice-read-value : tie.Need-shared-slice-read-value Inv-loop μ-loop
 shared-slice-read-value c = omega arith
 
--- src/rising.rt:13:21
 cast-value : tie.Need-cast-value Inv-loop μ-loop
 cast-value c = omega (arith, c .shared-slice-known .given (c .before .before .loop .i) .fits)
 
--- src/rising.rt:15:13
 returns : tie.Need-returns Inv-loop μ-loop
 returns c = search (rising-not, needs)
 
--- src/rising.rt:17:15
 add-low : tie.Need-add-low Inv-loop μ-loop
 add-low c = omega (arith, c .before .shared-slice-known .given (c .before .before .before .loop .i) .fits)
 
--- src/rising.rt:18:9
 add-i : tie.Need-add-i Inv-loop μ-loop
 add-i c = omega arith
 
--- src/rising.rt:12:5
 loop-less : tie.Need-loop-less Inv-loop μ-loop
 loop-less c = omega arith
 
--- src/rising.rt:12:5
 loop-again : tie.Need-loop-again Inv-loop μ-loop
 loop-again c = search (rising-more, needs)
 
--- src/rising.rt:7:1
 returns-2 : tie.Need-returns-2 Inv-loop μ-loop
 returns-2 c = search (rising-done, needs)
 

@@ -6,31 +6,24 @@ use Rattle.tables.proofs.rows.is_kept.Tie as tie
 use Rattle.tables.proofs.rows.is_kept.Reads as reads
 use Rattle.tables.proofs.rows.is_kept.Lts as lts
 
--- src/rows.rt:83:9
 returns : tie.Need-returns
 returns c = search (mark-no-row, needs)
 
--- src/rows.rt:86:9
 returns-2 : tie.Need-returns-2
 returns-2 c = mark-past (c .before .before .before .before .args .extent) (c .before .before .before .before .args .marks .now) (c .before .before .before .before .args .row) (c .before .before .if1 .left) (omega arith)
 
--- src/rows.rt:88:8
 sub-if3 : tie.Need-sub-if3
 sub-if3 c = search needs
 
--- src/rows.rt:89:9
 returns-3 : tie.Need-returns-3
 returns-3 c = mark-past (c .before .before .before .before .before .before .args .extent) (c .before .before .before .before .before .before .args .marks .now) (c .before .before .before .before .before .before .args .row) (c .before .before .before .before .if1 .left) (omega arith)
 
--- src/rows.rt:91:11
 add-mark : tie.Need-add-mark
 add-mark c = search needs
 
--- src/rows.rt:91:5
 shared-slice-read-mark : tie.Need-shared-slice-read-mark
 shared-slice-read-mark c = search needs
 
--- src/rows.rt:79:1
 returns-4 : tie.Need-returns-4
 returns-4 c = search (mark-is, needs)
 

@@ -8,15 +8,12 @@ use Rattle.tables.proofs.rows.kept_at.Tie as tie
 use Rattle.tables.proofs.rows.kept_at.Reads as reads
 use Rattle.tables.proofs.rows.kept_at.Lts as lts
 
--- src/rows.rt:24:11
 add-result : tie.Need-add-result
 add-result c = search needs
 
--- src/rows.rt:24:5
 shared-slice-read-result : tie.Need-shared-slice-read-result
 shared-slice-read-result c = search needs
 
--- src/rows.rt:20:1
 returns : tie.Need-returns
 returns c = ap (λ (m : ℕ). isKept m) (mark-over (c .before .before .args .extent) _ _ (c .before .before .pre .0))
 

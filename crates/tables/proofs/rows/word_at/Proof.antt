@@ -7,63 +7,48 @@ use Rattle.tables.proofs.rows.word_at.Tie as tie
 use Rattle.tables.proofs.rows.word_at.Reads as reads
 use Rattle.tables.proofs.rows.word_at.Lts as lts
 
--- src/rows.rt:60:9
 returns : tie.Need-returns
 returns c = search (word-no-row, needs)
 
--- src/rows.rt:63:9
 returns-2 : tie.Need-returns-2
 returns-2 c = search (word-outside, needs)
 
--- src/rows.rt:66:9
 returns-3 : tie.Need-returns-3
 returns-3 c = search (word-no-word, needs)
 
--- src/rows.rt:68:16
 sub-left : tie.Need-sub-left
 sub-left c = search needs
 
--- src/rows.rt:70:9
 returns-4 : tie.Need-returns-4
 returns-4 c = search (word-no-first, needs)
 
--- src/rows.rt:72:9
 sub-if5 : tie.Need-sub-if5
 sub-if5 c = search needs
 
--- src/rows.rt:72:9
 sub-if5-2 : tie.Need-sub-if5-2
 sub-if5-2 c = search needs
 
--- src/rows.rt:72:8
 div-if5 : tie.Need-div-if5
 div-if5 c = search needs
 
--- src/rows.rt:73:9
 returns-5 : tie.Need-returns-5
 returns-5 c = search (word-no-later, needs)
 
--- src/rows.rt:75:26
 mul-result : tie.Need-mul-result
 mul-result c = omega (arith, word-place (c .before .before .before .before .before .before .before .before .before .before .before .args .extent) (c .before .before .before .before .before .before .before .before .before .before .before .args .tables .now) (c .before .before .before .before .before .before .before .before .before .before .before .args .row) (c .before .before .before .before .before .before .before .before .before .before .before .args .column) (c .before .before .before .before .before .before .before .before .before .if1 .left) (c .before .before .before .before .before .before .before .if2 .left) (c .before .before .before .before .before .if3 .left) (c .before .before .before .if4 .left) (c .before .if5 .left))
 
--- src/rows.rt:75:12
 add-result : tie.Need-add-result
 add-result c = omega (arith, word-place (c .before .before .before .before .before .before .before .before .before .before .before .before .args .extent) (c .before .before .before .before .before .before .before .before .before .before .before .before .args .tables .now) (c .before .before .before .before .before .before .before .before .before .before .before .before .args .row) (c .before .before .before .before .before .before .before .before .before .before .before .before .args .column) (c .before .before .before .before .before .before .before .before .before .before .if1 .left) (c .before .before .before .before .before .before .before .before .if2 .left) (c .before .before .before .before .before .before .if3 .left) (c .before .before .before .before .if4 .left) (c .before .before .if5 .left))
 
--- src/rows.rt:75:12
 add-result-2 : tie.Need-add-result-2
 add-result-2 c = omega (arith, word-place (c .before .before .before .before .before .before .before .before .before .before .before .before .args .extent) (c .before .before .before .before .before .before .before .before .before .before .before .before .args .tables .now) (c .before .before .before .before .before .before .before .before .before .before .before .before .args .row) (c .before .before .before .before .before .before .before .before .before .before .before .before .args .column) (c .before .before .before .before .before .before .before .before .before .before .if1 .left) (c .before .before .before .before .before .before .before .before .if2 .left) (c .before .before .before .before .before .before .if3 .left) (c .before .before .before .before .if4 .left) (c .before .before .if5 .left))
 
--- src/rows.rt:75:5
 mul-result-2 : tie.Need-mul-result-2
 mul-result-2 c = omega (arith, word-place (c .before .before .before .before .before .before .before .before .before .before .before .before .args .extent) (c .before .before .before .before .before .before .before .before .before .before .before .before .args .tables .now) (c .before .before .before .before .before .before .before .before .before .before .before .before .args .row) (c .before .before .before .before .before .before .before .before .before .before .before .before .args .column) (c .before .before .before .before .before .before .before .before .before .before .if1 .left) (c .before .before .before .before .before .before .before .before .if2 .left) (c .before .before .before .before .before .before .if3 .left) (c .before .before .before .before .if4 .left) (c .before .before .if5 .left))
 
--- src/rows.rt:75:5
 shared-slice-read-result : tie.Need-shared-slice-read-result
 shared-slice-read-result c = omega (arith, word-place (c .before .before .before .before .before .before .before .before .before .before .before .before .before .args .extent) (c .before .before .before .before .before .before .before .before .before .before .before .before .before .args .tables .now) (c .before .before .before .before .before .before .before .before .before .before .before .before .before .args .row) (c .before .before .before .before .before .before .before .before .before .before .before .before .before .args .column) (c .before .before .before .before .before .before .before .before .before .before .before .if1 .left) (c .before .before .before .before .before .before .before .before .before .if2 .left) (c .before .before .before .before .before .before .before .if3 .left) (c .before .before .before .before .before .if4 .left) (c .before .before .before .if5 .left))
 
--- src/rows.rt:55:1
 returns-6 : tie.Need-returns-6
 returns-6 c = search (word-over, needs)
 

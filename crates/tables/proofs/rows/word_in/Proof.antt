@@ -6,27 +6,21 @@ use Rattle.tables.proofs.rows.word_in.Tie as tie
 use Rattle.tables.proofs.rows.word_in.Reads as reads
 use Rattle.tables.proofs.rows.word_in.Lts as lts
 
--- src/rows.rt:17:26
 mul-result : tie.Need-mul-result
 mul-result c = let a = c .before .args in omega (arith, row-below (a .extent) (a .row) (c .before .pre .0))
 
--- src/rows.rt:17:12
 add-result : tie.Need-add-result
 add-result c = let a = c .before .before .args in omega (arith, row-below (a .extent) (a .row) (c .before .before .pre .0))
 
--- src/rows.rt:17:12
 add-result-2 : tie.Need-add-result-2
 add-result-2 c = let a = c .before .before .args in omega (arith, row-below (a .extent) (a .row) (c .before .before .pre .0))
 
--- src/rows.rt:17:5
 mul-result-2 : tie.Need-mul-result-2
 mul-result-2 c = let a = c .before .before .args in omega (arith, row-below (a .extent) (a .row) (c .before .before .pre .0))
 
--- src/rows.rt:17:5
 shared-slice-read-result : tie.Need-shared-slice-read-result
 shared-slice-read-result c = let a = c .before .before .before .args in omega (arith, row-below (a .extent) (a .row) (c .before .before .before .pre .0))
 
--- src/rows.rt:13:1
 returns : tie.Need-returns
 returns c = search (word-over, needs)
 

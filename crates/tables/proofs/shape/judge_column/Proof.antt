@@ -7,31 +7,24 @@ use Rattle.tables.proofs.shape.judge_column.Lts as lts
 use Rattle.paths.proofs.steps.is_place.Reads as is-place-reads
 use Rattle.tables.proofs.shape.judge_marks.Reads as judge-marks-reads
 
--- src/shape.rt:56:9
 judge-marks-requires : tie.Need-judge-marks-requires
 judge-marks-requires c κs = search needs
 
--- src/shape.rt:58:28
 enum-known-verdict : tie.Need-enum-known-verdict
 enum-known-verdict c = search needs
 
--- src/shape.rt:60:17
 enum-told : tie.Need-enum-told
 enum-told c = search needs
 
--- src/shape.rt:60:17
 is-place-requires : tie.Need-is-place-requires
 is-place-requires c κs = search needs
 
--- src/shape.rt:61:17
 returns : tie.Need-returns
 returns c = search (judge-nowhere, needs)
 
--- src/shape.rt:53:1
 returns-2 : tie.Need-returns-2
 returns-2 c = search (judge-before, needs)
 
--- src/shape.rt:53:1
 returns-3 : tie.Need-returns-3
 returns-3 c = search (judge-column, needs)
 

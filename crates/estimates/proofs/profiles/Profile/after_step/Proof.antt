@@ -8,19 +8,15 @@ use Rattle.estimates.proofs.profiles.count_after.Reads as count-after-r
 use Rattle.estimates.proofs.profiles.rows_after.Reads as rows-after-reads
 use Rattle.estimates.proofs.profiles.shrunk.Reads as shrunk-reads
 
--- src/profiles.rt:291:13
 rows-after-requires : tie.Need-rows-after-requires
 rows-after-requires c κs = search needs
 
--- src/profiles.rt:292:13
 count-after-requires : tie.Need-count-after-requires
 count-after-requires c κs = search needs
 
--- src/profiles.rt:293:9
 shrunk-requires : tie.Need-shrunk-requires
 shrunk-requires c κs = search needs
 
--- src/profiles.rt:286:5
 returns : tie.Need-returns
 returns c = let a = c .before .before .before .before .args in step-is (a .envelope) (a .self) _ (a .step) _ _ (c .before .before .rows-after .ensures) (c .before .count-after .ensures) (c .shrunk .ensures)
 
