@@ -1,7 +1,7 @@
 /* Two stations and one question: which coupons of station 1 were weighed at station 2, and what did they lose?
  *
  * COUPON (number, date) is at site 1, WEIGH (number, date, loss) at site 2, joined on their numbers; the program reduces each by the
- * other and brings the rows to site 1. Messages go through `carry`, where a radio would be; one is sent twice.
+ * other and brings the rows to site 1. Messages go through `carry`, where a radio would be; each value message is sent twice.
  *
  * Build: rt staticlib boundary && cc -std=c99 -Iinclude examples/embed.c target/staticlib/libboundary.a -o embed
  */

@@ -10,8 +10,9 @@
  * counted from 0.
  *
  * Envelopes and programs are bytes as the rules paper lists them, "Papers on the wire" (crates/envelopes/specs/Envelope.antt and
- * crates/papers/specs/Programs.antt have every field). Tables are words: the row count of each relation, then the rows, relation
- * by relation, all columns. Marks are bytes, one for each row of the tables, in their order. A call needs up to about 64 KiB of stack.
+ * crates/papers/specs/Programs.antt have their fields, crates/entries/specs/ those of relations, columns and clauses). Tables are
+ * words: the row count of each relation, then the rows, relation by relation, all columns. Marks are bytes, one for each row of the
+ * tables, in their order. A call needs up to about 64 KiB of stack.
  */
 #ifndef LEGESTRAN_H
 #define LEGESTRAN_H
@@ -85,9 +86,9 @@ uint64_t legestran_answer(legestran_bytes envelope, legestran_words tables, lege
 
 /* 6. Opens a station's end for a run, whose number the stations agree on. The tables follow the envelope; relations of other sites
  * may have 0 rows. Sets marks, one byte for each row, and the first 19 words of state, in which the end is kept; applied words of
- * relations that the envelope has not stay as they were, and all eight arrived words are set to 0. Hand marks and state to every later call as they are, with the same papers
- * and the same tables: a table that changes during a run moves the marks. After the papers 10, 4 (site above 7), 11 (marks, then a
- * state of fewer than 19 words).
+ * relations that the envelope has not stay as they were, and all eight arrived words are set to 0. Hand marks and state to every
+ * later call as they are, with the same papers and the same tables: a table that changes during a run moves the marks. After the
+ * papers 10, 4 (site above 7), 11 (marks, then a state of fewer than 19 words).
  *
  * The calls 7 to 10 begin with the end: 11 (a state of fewer than 19 words), the papers' numbers, and 4 at 0 for a state with more
  * applied steps of a relation than the program has, or with an arrived word above 1; "after the end" below. */
