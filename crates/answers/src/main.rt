@@ -1,6 +1,8 @@
 // Answers, run: those of the same day, on number and on date, on tables and at an end after a run, and each refusal of an answer
 // at an end; under each line the buffer that was lent, as it is afterwards. COUPON (number, date) is relation 0 at site 1, where the
 // answer is assembled; WEIGH (number, date, loss) is relation 1 at site 2; step 0 reduces COUPON by WEIGH.
+#![tactic(auto)]
+
 use contents::envelope::Envelope;
 use ends::ends::End;
 use entries::clauses::{Clause, ClauseKind};

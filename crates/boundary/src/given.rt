@@ -13,7 +13,7 @@ use ground::Verdict;
 use papers::checks::{Papers, PapersRead};
 
 // An end, or the refusal with the empty end beside it.
-#[derive(Drop)]
+#[derive(Clone, Copy)]
 pub struct EndRead {
     pub verdict: Verdict,
     pub end: End,

@@ -7,7 +7,7 @@ use fields::numbers::{NumberRead, Width};
 pub(crate) const MOST: usize = 40960;
 
 // A word; the input ends before it; or within it.
-#[derive(Drop)]
+#[derive(Clone, Copy)]
 pub(crate) enum WordRead {
     Word(u32),
     End,
@@ -15,14 +15,14 @@ pub(crate) enum WordRead {
 }
 
 // A number, where the script is sound so far.
-#[derive(Drop)]
+#[derive(Clone, Copy)]
 pub(crate) struct Number {
     pub(crate) sound: bool,
     pub(crate) value: u32,
 }
 
 // How many elements a slice has, where the script is sound so far.
-#[derive(Drop)]
+#[derive(Clone, Copy)]
 pub(crate) struct Count {
     pub(crate) sound: bool,
     pub(crate) count: usize,

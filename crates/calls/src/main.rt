@@ -1,6 +1,8 @@
 // Performs a script of the boundary's calls, from standard input, and writes the outcome of each to standard output.
 // input reads the script's words and slices; paper_calls and end_calls perform the calls; output writes what comes of them.
 // Below lies boundary, and nothing lies above. bin/compare holds the outcomes against those of the second program.
+#![tactic(auto)]
+
 mod end_calls;
 mod input;
 mod output;

@@ -1,6 +1,8 @@
 // Papers at their limits, of 01's "Figures to check" and "Numbers we refuse by", run: each line is how one paper is answered.
 // The small envelope below is taken, and each case changes it in one place; refusals 1 to 9, with their positions, are among them.
 // Below lies papers, and nothing lies above. What is printed is compared with the file stdout of this crate.
+#![tactic(auto)]
+
 use contents::envelope::Envelope;
 use entries::places::Place;
 use fields::puts::Written;

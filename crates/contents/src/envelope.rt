@@ -7,7 +7,7 @@ use entries::places::Place;
 use entries::relations::Relation;
 
 // A count says how many places of its array are in use.
-#[derive(Drop)]
+#[derive(Clone, Copy)]
 pub struct Envelope {
     pub version: u16,
     pub domain_count: u8,

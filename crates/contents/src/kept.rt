@@ -10,14 +10,14 @@ use entries::clauses::{Clause, ClauseKind};
 use entries::places::Place;
 
 // The numbers of some columns, rising: count of them, and 0 behind them.
-#[derive(Drop)]
+#[derive(Clone, Copy)]
 pub struct Columns {
     pub count: u8,
     pub numbers: [u8; 8],
 }
 
 // The lowest relation that has no kept column.
-#[derive(Drop)]
+#[derive(Clone, Copy)]
 pub enum Bare {
     Lowest(u8),
     None,

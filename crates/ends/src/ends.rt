@@ -11,7 +11,7 @@ use papers::programs::Program;
 
 // applied and arrived have a place for each relation; places behind the last relation play no part. used is how many words
 // of the store hold row messages.
-#[derive(Drop)]
+#[derive(Clone, Copy)]
 pub struct End {
     pub envelope: Envelope,
     pub program: Program,

@@ -17,7 +17,7 @@ pub const FRONT: usize = 3;
 pub const ROWS_FROM: u32 = 256;
 
 // The values of a step, by its number; the rows of a relation; or nothing that there is.
-#[derive(Drop)]
+#[derive(Clone, Copy)]
 pub enum About {
     Step(usize),
     Rows(u8),

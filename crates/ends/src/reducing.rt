@@ -8,7 +8,7 @@ use papers::programs::Program;
 use paths::steps::Step;
 
 // The number of the first step that is missing.
-#[derive(Drop)]
+#[derive(Clone, Copy)]
 pub enum Missing {
     First(usize),
     None,
@@ -16,7 +16,7 @@ pub enum Missing {
 
 // A search through the steps for the next one of a relation: how many of its steps are still passed over, the number that a step must
 // be below to count, and the number of the step that was found.
-#[derive(Drop)]
+#[derive(Clone, Copy)]
 struct Search {
     pub relation: u8,
     pub skip: u32,

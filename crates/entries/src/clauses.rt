@@ -15,18 +15,18 @@ use crate::relations::Relation;
 use fields::numbers::{NumberRead, Width};
 use fields::refusals;
 
-#[derive(Drop)]
+#[derive(Clone, Copy)]
 pub enum ClauseKind {
     Selection { place: Place, value: u32 },
     Join { left: Place, right: Place },
 }
 
-#[derive(Drop)]
+#[derive(Clone, Copy)]
 pub struct Clause {
     pub kind: ClauseKind,
 }
 
-#[derive(Drop)]
+#[derive(Clone, Copy)]
 pub enum ClauseRead {
     Is(Clause, usize),
     Not { number: u8, position: usize },

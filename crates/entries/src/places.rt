@@ -6,13 +6,13 @@ ghost use Rattle.entries.specs.Places.{no_place, same_place, named_column, place
 use crate::relations::{Column, Relation};
 use fields::numbers::{NumberRead, Width};
 
-#[derive(Drop)]
+#[derive(Clone, Copy)]
 pub struct Place {
     pub relation: u8,
     pub column: u8,
 }
 
-#[derive(Drop)]
+#[derive(Clone, Copy)]
 pub enum PlaceRead {
     Is(Place, usize),
     Not { number: u8, position: usize },

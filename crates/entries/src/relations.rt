@@ -15,14 +15,14 @@ ghost use Rattle.entries.specs.Relations.{
 use fields::numbers::{NumberRead, Width};
 use ground::Verdict;
 
-#[derive(Drop)]
+#[derive(Clone, Copy)]
 pub struct Column {
     pub domain: u8,
     pub width: u8,
     pub distinct: u32,
 }
 
-#[derive(Drop)]
+#[derive(Clone, Copy)]
 pub struct Relation {
     pub site: u8,
     pub column_count: u8,
@@ -30,13 +30,13 @@ pub struct Relation {
     pub columns: [Column; 8],
 }
 
-#[derive(Drop)]
+#[derive(Clone, Copy)]
 pub enum ColumnRead {
     Is(Column, usize),
     Not { number: u8, position: usize },
 }
 
-#[derive(Drop)]
+#[derive(Clone, Copy)]
 pub struct RelationRead {
     pub verdict: Verdict,
     pub next: usize,

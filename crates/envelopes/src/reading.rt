@@ -23,7 +23,7 @@ use fields::refusals;
 use ground::Verdict;
 
 // The envelope that was read, or the refusal with the empty envelope beside it.
-#[derive(Drop)]
+#[derive(Clone, Copy)]
 pub struct EnvelopeRead {
     pub verdict: Verdict,
     pub envelope: Envelope,

@@ -27,7 +27,7 @@ use fields::numbers::{NumberRead, Width};
 use ground::Verdict;
 
 // An envelope that is being read: what stands up to next, or the refusal with the empty envelope beside it.
-#[derive(Drop)]
+#[derive(Clone, Copy)]
 pub struct EnvelopePart {
     pub verdict: Verdict,
     pub next: usize,

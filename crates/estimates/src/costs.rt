@@ -11,7 +11,7 @@ use contents::envelope::Envelope;
 use paths::steps::Step;
 
 // The price from site a to site b is prices[8 * a + b].
-#[derive(Drop)]
+#[derive(Clone, Copy)]
 pub struct Costs {
     pub prices: [u64; 64],
 }

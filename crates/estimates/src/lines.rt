@@ -6,7 +6,7 @@ use ground::Verdict;
 use paths::steps::Step;
 
 // A step of a program with its benefit and its cost in that program.
-#[derive(Drop)]
+#[derive(Clone, Copy)]
 pub struct Line {
     pub step: Step,
     pub benefit: u64,
@@ -14,7 +14,7 @@ pub struct Line {
 }
 
 // What a given program is expected to cost; or the refusal, with nothing beside it.
-#[derive(Drop)]
+#[derive(Clone, Copy)]
 pub struct Estimate {
     pub verdict: Verdict,
     pub count: u8,

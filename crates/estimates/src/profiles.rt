@@ -14,7 +14,7 @@ use entries::relations::Relation;
 use paths::steps::Step;
 
 // Relation r has rows[r], its column c has counts[8 * r + c]. Its width, widths[r], stays as it is.
-#[derive(Drop)]
+#[derive(Clone, Copy)]
 pub struct Profile {
     pub rows: [u64; 8],
     pub counts: [u64; 64],

@@ -1,9 +1,8 @@
 -- The laws of specs/: NumberLaws of numbers, HeadCodeLaws of mark and version, PutLaws of what is put into a lent buffer.
 -- ExactReading says how exact readings are made of exact ones, ExactNumbers that fields are read exactly as they are written.
--- Walk has the names that a proof by hand is written with. That both papers above are read exactly is chained of these laws.
+-- That both papers above are read exactly is chained of these laws.
 pub mod NumberLaws
 pub mod HeadCodeLaws
 pub mod PutLaws
 pub mod ExactReading
 pub mod ExactNumbers
-pub mod Walk

@@ -19,7 +19,7 @@ use ground::Verdict;
 const BEHIND_MARK: usize = 3;
 
 // How many bytes a number has.
-#[derive(Drop)]
+#[derive(Clone, Copy)]
 pub enum Width {
     One,
     Two,
@@ -27,7 +27,7 @@ pub enum Width {
 }
 
 // A number with the position past it, or the refusal and its position.
-#[derive(Drop)]
+#[derive(Clone, Copy)]
 pub enum NumberRead {
     Is(u32, usize),
     Not { number: u8, position: usize },

@@ -9,7 +9,7 @@ use crate::numbers::Width;
 use crate::refusals;
 
 // The length written, in bytes or words, or the refusal; then nothing was written.
-#[derive(Drop)]
+#[derive(Clone, Copy)]
 pub enum Written {
     Length(usize),
     Refused { number: u8, position: usize },

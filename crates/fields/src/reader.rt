@@ -9,7 +9,7 @@ use crate::refusals;
 use ground::Verdict;
 
 // "A small reader struct holding the paper's bytes and a position."
-#[derive(Drop)]
+#[derive(Clone, Copy)]
 pub struct Reader<'a> {
     pub bytes: &'a [u8],
     pub at: usize,

@@ -8,14 +8,14 @@ use contents::envelope::Envelope;
 use ground::Verdict;
 
 // An envelope and a program for it.
-#[derive(Drop)]
+#[derive(Clone, Copy)]
 pub struct Papers {
     pub envelope: Envelope,
     pub program: Program,
 }
 
 // The papers as they read back, or the refusal with empty ones beside it.
-#[derive(Drop)]
+#[derive(Clone, Copy)]
 pub struct PapersRead {
     pub verdict: Verdict,
     pub papers: Papers,

@@ -30,7 +30,7 @@ use ground::Verdict;
 use paths::labels::Labels;
 use paths::steps::Step;
 
-#[derive(Drop)]
+#[derive(Clone, Copy)]
 pub struct Program {
     pub site: u8,
     pub count: u8,
@@ -38,14 +38,14 @@ pub struct Program {
 }
 
 // A step with the position past it, or the refusal.
-#[derive(Drop)]
+#[derive(Clone, Copy)]
 pub enum StepRead {
     Is(Step, usize),
     Not { number: u8, position: usize },
 }
 
 // The program that was read, or the refusal with the empty program beside it.
-#[derive(Drop)]
+#[derive(Clone, Copy)]
 pub struct ProgramRead {
     pub verdict: Verdict,
     pub program: Program,

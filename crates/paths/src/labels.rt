@@ -12,7 +12,7 @@ use entries::places::Place;
 use entries::relations::Relation;
 
 // 0 to 63 are columns, 8 to a relation; 64 to 75 the constants, by the first clause that selects each.
-#[derive(Drop)]
+#[derive(Clone, Copy)]
 pub struct Labels {
     pub of: [u8; 76],
 }

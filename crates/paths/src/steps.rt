@@ -9,14 +9,14 @@ use contents::envelope::Envelope;
 use entries::places::Place;
 use ground::Verdict;
 
-#[derive(Drop)]
+#[derive(Clone, Copy)]
 pub struct Step {
     pub left: Place,
     pub right: Place,
 }
 
 // Whether a step is legal for an envelope, or the envelope's refusal.
-#[derive(Drop)]
+#[derive(Clone, Copy)]
 pub enum Legality {
     Legal,
     NotLegal,

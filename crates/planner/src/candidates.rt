@@ -14,7 +14,7 @@ use entries::places::Place;
 use paths::steps::Step;
 
 // Steps in order; the places behind the count hold no step.
-#[derive(Drop)]
+#[derive(Clone, Copy)]
 pub(crate) struct Steps {
     pub count: u8,
     pub all: [Step; 156],

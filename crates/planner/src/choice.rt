@@ -18,14 +18,14 @@ use estimates::profiles::Profile;
 use paths::steps::Step;
 
 // The step of greatest gain, where one gains.
-#[derive(Drop)]
+#[derive(Clone, Copy)]
 pub(crate) enum Choice {
     Chosen(Step),
     Nothing,
 }
 
 // The greedy program and the profile that it leaves.
-#[derive(Drop)]
+#[derive(Clone, Copy)]
 pub(crate) struct Greedy {
     pub steps: Steps,
     pub profile: Profile,

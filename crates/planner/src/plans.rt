@@ -4,7 +4,7 @@ use ground::Verdict;
 
 // The program handed out, with what it is expected to cost, and what local operations alone would; or the refusal, with
 // nothing beside it.
-#[derive(Drop)]
+#[derive(Clone, Copy)]
 pub struct Plan {
     pub verdict: Verdict,
     pub site: u8,

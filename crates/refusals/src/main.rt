@@ -1,6 +1,8 @@
 // Station ends, run: each line that is printed is how one call is answered, each refusal number that opening, making and
 // receiving can give among them, and under it what was lent, as it is afterwards. A run at two sites: relation 0 at site 1,
 // relation 1 at site 2, joined on their first columns; steps 0 and 2 reduce relation 0, step 1 relation 1.
+#![tactic(auto)]
+
 use contents::envelope::Envelope;
 use ends::ends::End;
 use entries::clauses::{Clause, ClauseKind};

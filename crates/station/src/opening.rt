@@ -12,7 +12,7 @@ use papers::checks::Papers;
 use papers::programs::Program;
 
 // The end, or the refusal with the empty end beside it.
-#[derive(Drop)]
+#[derive(Clone, Copy)]
 pub struct Opened {
     pub verdict: Verdict,
     pub end: End,

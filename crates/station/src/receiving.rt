@@ -36,7 +36,7 @@ use semijoin::marks;
 use semijoin::marks::Reduced;
 
 // The end afterwards, with the verdict; where it is refused, the end that came in.
-#[derive(Drop)]
+#[derive(Clone, Copy)]
 pub struct Received {
     pub verdict: Verdict,
     pub end: End,

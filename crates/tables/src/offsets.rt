@@ -5,7 +5,7 @@ ghost use Rattle.tables.specs.Offsets.{count_in, row_count, extent_of};
 use contents::envelope::Envelope;
 
 // A relation's columns and rows, its first word and its first mark.
-#[derive(Drop)]
+#[derive(Clone, Copy)]
 pub struct Extent {
     pub columns: usize,
     pub rows: usize,
