@@ -1,6 +1,5 @@
 use native.Mathlib.Omega.{arith}
 use Rattle.fields.proofs.PutLaws.{head_long, put_head}
-use borrow.Author.Rules.{rules}
 use Rattle.fields.proofs.puts.put_head.Goals as goal
 
 pub returns : goal.returns

@@ -1,9 +1,7 @@
-use borrow.Author.Rules.{rules}
 use Rattle.fields.proofs.PutLaws.{front_short, front_whole}
-use Prim.Native.Nat.{◌≤◌, ◌-◌}
-use mathlib.Core.Path.{◌≡◌, refl}
-use lib.ListN.{length, length-set}
-use Rattle.ground.proofs.PuttingLaws.{Copying, copying_start, copying_more}
+use mathlib.Core.Path.{refl}
+use lib.ListN.{length-set}
+use Rattle.ground.proofs.PuttingLaws.{copying_start, copying_more}
 use native.Mathlib.Omega.{arith}
 use Rattle.fields.proofs.puts.write_front.Goals as goal
 

@@ -1,10 +1,7 @@
-use borrow.Author.Rules.{rules}
-use Rattle.fields.proofs.PutLaws.{front_short, front_whole}
 use Prim.Native.Nat.{◌≤◌, ◌-◌}
-use mathlib.Core.Path.{◌≡◌, refl}
-use lib.ListN.{length, length-set}
-use Rattle.ground.proofs.PuttingLaws.{Copying, copying_start, copying_more}
-use native.Mathlib.Omega.{arith}
+use mathlib.Core.Path.{◌≡◌}
+use lib.ListN.{length}
+use Rattle.ground.proofs.PuttingLaws.{Copying}
 use Rattle.fields.proofs.puts.write_front.Given as goal
 
 abbrev pub invariant-loop-i : goal.invariant-loop-i

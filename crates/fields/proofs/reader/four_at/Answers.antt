@@ -1,6 +1,5 @@
 use native.Mathlib.Omega.{arith}
 use Rattle.fields.proofs.NumberLaws.{number_short, number_is, four_bytes}
-use borrow.Author.Rules.{rules}
 use Rattle.fields.proofs.reader.four_at.Goals as goal
 
 -- TODO no goal overflow-sub-if2

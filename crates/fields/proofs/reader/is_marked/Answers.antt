@@ -1,4 +1,3 @@
-use native.Mathlib.Omega.{arith}
 use Rattle.fields.proofs.HeadCodeLaws.{marked_first, marked_second, marked_third}
 use borrow.Author.Rules.{rules}
 use Rattle.fields.proofs.reader.is_marked.Goals as goal

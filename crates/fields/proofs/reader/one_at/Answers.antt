@@ -1,6 +1,5 @@
 use native.Mathlib.Omega.{arith}
 use Rattle.fields.proofs.NumberLaws.{number_short, number_is, one_byte}
-use borrow.Author.Rules.{rules}
 use Rattle.fields.proofs.reader.one_at.Goals as goal
 
 -- TODO no goal overflow-add-t3
