@@ -1,0 +1,16 @@
+use Prim.Native.Nat.{◌-◌}
+use Rattle.ground.specs.Searching.{first_from}
+use Rattle.ground.proofs.SearchingLaws.{Looking, looking_start}
+use Rattle.contents.proofs.KeptCodeLaws.{bare, bare_found, bare_passed, bare_none}
+use borrow.Author.Rules.{rules}
+use native.Mathlib.Omega.{arith}
+use Rattle.contents.proofs.kept.lowest_bare.Goals as goal
+
+pub returns-then-columns-eq0 : goal.returns-then-columns-eq0
+returns-then-columns-eq0 c = search (bare_found, rules)
+
+pub loop-relation-preserved : goal.loop-relation-preserved
+loop-relation-preserved c = search (bare_passed, rules)
+
+pub returns : goal.returns
+returns c = search (bare_none, rules)
