@@ -2,7 +2,7 @@
 -- same rules and has the same bytes.
 use mathlib.Core.Path.{◌≡◌, refl, sym, ap, ◌∙◌}
 use mathlib.Core.Bool.{false}
-use mathlib.Core.List.{List, [], ◌∷◌, map, map_map}
+use mathlib.Core.List.{List, [], ◌∷◌, map, map-map}
 use Prim.Native.Nat.{ℕ, zero, suc, ◌<◌, min}
 use native.Mathlib.Omega.{arith}
 use lib.ListN.{length, get_or, length-map}
@@ -227,7 +227,7 @@ module _ (e : Envelope) (within : Within e) where
         tidy_relations e,
         tidy_clauses e,
         tidy_targets e,
-        map_map tidy_relation tidy_relation (relations_of e),
+        map-map tidy_relation tidy_relation (relations_of e),
         map_alike (λ (r : Relation). tidy_relation (tidy_relation r)) tidy_relation (relations_of e)
             (λ r m. tidy_again (sizes_of e) r (every_at (RelationWithin (sizes_of e)) (relations_of e) within.each m)),
       )

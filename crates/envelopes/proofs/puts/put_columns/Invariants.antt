@@ -1,0 +1,12 @@
+use Prim.Native.Nat.{◌-◌}
+use Rattle.entries.specs.Relations.{column_bytes}
+use Rattle.ground.proofs.WritingLaws.{Writing, writing_start, writing_more, writing_place, writing_done}
+use borrow.Author.Rules.{rules}
+use native.Mathlib.Omega.{arith}
+use Rattle.envelopes.proofs.puts.put_columns.Given as goal
+
+abbrev pub invariant-loop-i : goal.invariant-loop-i
+invariant-loop-i l = Writing column_bytes 6 l.columns l.initial.out l.at l.end l.i l.p l.out
+
+abbrev pub decreases-loop-i : goal.decreases-loop-i
+decreases-loop-i l = l.end - l.i
