@@ -104,7 +104,8 @@ def plan():
 
 def within(path, text, new, homes):
     """Old name to new, in one file."""
-    names = dict(new)
+    kit = {word for word, _ in imports(text, False)}
+    names = {old: to for old, to in new.items() if old not in kit}
     for old, to in PROMISES.items():
         if old in homes:
             names[old] = to if path.startswith("crates/demands/") else snake(old) + "_lem"

@@ -2,7 +2,7 @@
 -- joins them. Nodes have numbers of their own, below 76, and to make labels one along an edge is to link its two ends.
 use mathlib.Core.Path.{◌≡◌, refl, sym, ap, ap₂, ◌∙◌, subst}
 use mathlib.Core.Logic.{◌↔◌}
-use mathlib.Core.Bool.{Bool, true, false, ◌&&◌, ◌||◌, false≢true, and_false, and-true, or-false}
+use mathlib.Core.Bool.{Bool, true, false, ◌&&◌, ◌||◌, false≢true, and-false, and-true, or-false}
 use mathlib.Core.List.Memᴰ
 use mathlib.Core.List.{List, [], ◌∷◌, Memᴰ}
 use Prim.Native.Nat.{ℕ, ◌+◌, ◌<◌, min}
@@ -150,10 +150,10 @@ one_edge a b x y = go (eqb x a) (eqb y a) refl refl
     go : (u v : Bool) → eqb x a ≡ u → eqb y a ≡ v → eqb (pick u b x) (pick v b y) ≡ (eqb x y || (u && eqb b y || eqb x b && eqb a y))
     go true true p q = rw (eq-eqb b b refl, eq-eqb x y (eqb-true x a p ∙ sym (eqb-true y a q)))
     go true false p q =
-        rw (ne_eqb x y (λ e. eqb-false y a q (sym e ∙ eqb-true x a p)), ne_eqb a y (λ e. eqb-false y a q (sym e)), and_false, or-false)
+        rw (ne_eqb x y (λ e. eqb-false y a q (sym e ∙ eqb-true x a p)), ne_eqb a y (λ e. eqb-false y a q (sym e)), and-false, or-false)
     go false true p q =
         rw (ne_eqb x y (λ e. eqb-false x a p (e ∙ eqb-true y a q)), eq-eqb a y (sym (eqb-true y a q)), and-true)
-    go false false p q = rw (ne_eqb a y (λ e. eqb-false y a q (sym e)), and_false, or-false)
+    go false false p q = rw (ne_eqb a y (λ e. eqb-false y a q (sym e)), and-false, or-false)
 
 pub labelled_length : (e : Envelope) (gs : List Edge) → length (labelled e gs) ≡ 76
 unfolding labelled united relabel

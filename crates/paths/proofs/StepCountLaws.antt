@@ -1,7 +1,7 @@
 -- "Steps 0 to 156, which always holds every legal step once." Each clause adds at most one to the number of columns that
 -- have another on a path behind them in the list of columns, and n such columns make at most n (n + 1) legal steps.
 use mathlib.Core.Path.{◌≡◌, refl, ap}
-use mathlib.Core.Bool.{Bool, true, false, ◌&&◌, ◌||◌, false≢true, or-true, and_false}
+use mathlib.Core.Bool.{Bool, true, false, ◌&&◌, ◌||◌, false≢true, or-true, and-false}
 use mathlib.Core.List.{List, [], ◌∷◌, ◌++◌, map, Memᴰ}
 use mathlib.Core.Logic.{◌⊎◌, inl, inr}
 use Prim.Native.Nat.{ℕ, suc, ◌+◌, ◌*◌, ◌≤◌}
@@ -127,7 +127,7 @@ one_more false true f t fx tx m n h a b k = go (h refl)
         rw (s, u, or-true) (omega (arith, rw none at k))
     go (inr (inr (s, u))) =
         let none : t ≡ false = not_holds t (λ z. false≢true (b s z)) in
-        rw (s, u, or-true) (omega (arith, rw (none, and_false) at k))
+        rw (s, u, or-true) (omega (arith, rw (none, and-false) at k))
 
 -- a path of some edges joins two columns; a node and a column
 abbrev joins : List Edge → Place → Place → Bool

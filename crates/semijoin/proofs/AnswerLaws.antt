@@ -3,7 +3,7 @@
 use mathlib.Core.Path.{◌≡◌, refl, sym, ap, ◌∙◌}
 use mathlib.Core.Bool.{Bool, true, false}
 use mathlib.Core.List.Memᴰ
-use mathlib.Core.List.{List, [], ◌∷◌, map, map_map, Memᴰ}
+use mathlib.Core.List.{List, [], ◌∷◌, map, map-map, Memᴰ}
 use mathlib.Core.Logic.{◌⊎◌, inl, inr}
 use Prim.Native.Nat.{ℕ, suc, ◌<◌, zero-le, suc-le-suc}
 use native.Mathlib.Omega.{arith}
@@ -110,14 +110,14 @@ module _ (e : Envelope) (tables : ℕ → Table) (marks : ℕ → List ℕ)
   tables_paired : tables_by ≡ map (map row_in) (map (filter is_on) paired)
   tables_paired =
       map_alike _ (λ r. map row_in (filter is_on (pairs r))) (below (relation_count e)) (λ r m. kept_beside (marks r) (tables r))
-      ∙ sym (ap (map (map row_in)) (map_map (filter is_on) pairs (below (relation_count e)))
-      ∙ map_map (map row_in) (λ r. filter is_on (pairs r)) (below (relation_count e)))
+      ∙ sym (ap (map (map row_in)) (map-map (filter is_on) pairs (below (relation_count e)))
+      ∙ map-map (map row_in) (λ r. filter is_on (pairs r)) (below (relation_count e)))
 
   plain : map (map row_in) (combinations paired) ≡ combinations all_tables
   plain =
       sym (combinations_map row_in paired)
       ∙ ap combinations
-      (map_map (map row_in) pairs (below (relation_count e))
+      (map-map (map row_in) pairs (below (relation_count e))
       ∙ map_alike _ tables (below (relation_count e)) (λ r m. rows_beside (marks r) (tables r)))
 
   paired_at : (r : ℕ) → r < length paired → get_or paired r [] ≡ pairs r

@@ -1,6 +1,6 @@
 -- What receiving a message says: where it is taken, its facts; where it is refused, by which number, and that nothing changed.
 use mathlib.Core.Path.{◌≡◌, refl, ap, sym, ◌∙◌}
-use mathlib.Core.Bool.{true, false, not, and_false}
+use mathlib.Core.Bool.{true, false, not, and-false}
 use mathlib.Core.List.Memᴰ
 use mathlib.Core.List.{List, [], ◌∷◌, ◌++◌, Memᴰ}
 use mathlib.Core.Logic.{◌⊎◌, inl, inr}
@@ -92,7 +92,7 @@ pub none_kept : (q : Papers) (x : End) (words marks m : List ℕ) (n : ℕ) (y :
     → body_of m ≡ [] → (i : ℕ) → kept_at q.envelope words after (step_of q.program n).left.relation i ≡ false
 none_kept q x words marks m n y after t empty i =
     let a = (step_of q.program n).left in
-    rw (t.marked, empty) ((promise q.envelope).exactly words [] marks a i ∙ and_false (kept_at q.envelope words marks a.relation i))
+    rw (t.marked, empty) ((promise q.envelope).exactly words [] marks a i ∙ and-false (kept_at q.envelope words marks a.relation i))
 
 -- ---- the rows of a relation
 

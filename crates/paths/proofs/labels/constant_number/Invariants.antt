@@ -1,0 +1,13 @@
+use Prim.Native.Nat.{◌-◌}
+use Rattle.ground.specs.Searching.{first_from}
+use Rattle.ground.proofs.SearchingLaws.{Looking, looking_start}
+use Rattle.paths.proofs.LabelCodeLaws.{selecting, constant_found, constant_passed, constant_none}
+use borrow.Author.Rules.{rules}
+use native.Mathlib.Omega.{arith}
+use Rattle.paths.proofs.labels.constant_number.Given as goal
+
+abbrev pub invariant-loop-i : goal.invariant-loop-i
+invariant-loop-i l = Looking first_from (selecting l.relations l.clauses l.domain l.value) l.end l.i
+
+abbrev pub decreases-loop-i : goal.decreases-loop-i
+decreases-loop-i l = l.end - l.i

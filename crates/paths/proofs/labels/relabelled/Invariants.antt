@@ -1,0 +1,13 @@
+use borrow.Author.Rules.{rules}
+use mathlib.Core.Logic.{⊎_elim}
+use Prim.Native.Nat.{◌-◌}
+use Rattle.ground.proofs.MappingLaws.{mapping_start}
+use Rattle.paths.proofs.LabelCodeLaws.{Relabelling, relabel_hit, relabel_miss, relabel_done}
+use native.Mathlib.Omega.{arith}
+use Rattle.paths.proofs.labels.relabelled.Given as goal
+
+abbrev pub invariant-loop-i : goal.invariant-loop-i
+invariant-loop-i l = Relabelling l.a l.b l.initial.out l.i l.out
+
+abbrev pub decreases-loop-i : goal.decreases-loop-i
+decreases-loop-i l = 76 - l.i
