@@ -112,7 +112,7 @@ fn open_rows(
 // The marks of every row: by its local operations where its relation is here, else 0. The envelope was found good.
 pub(crate) fn open_all(envelope: Envelope, tables: &[u32], here: [bool; 8], marks: &mut [u8])
     requires { Within envelope × (shaped envelope tables.now ≡ true) × (row_count envelope tables.now ≤ length marks.old) }
-    ensures* { λ r. ⌜ marks.new ≡ opened_in envelope tables.now (λ r. slice_index_or here r false) marks.old ⌝ }
+    ensures { marks.new ≡ opened_in envelope tables.now (λ r. slice_index_or here r false) marks.old }
 {
     let labels = paths::labels::labels_of(envelope);
     let end = ground::used::in_use(8, envelope.relation_count);
@@ -129,7 +129,7 @@ pub(crate) fn open_all(envelope: Envelope, tables: &[u32], here: [bool; 8], mark
 
 // The same for any envelope, tables and marks: the envelope is checked, then 10, 11.
 pub fn open_marks(envelope: Envelope, tables: &[u32], here: [bool; 8], marks: &mut [u8]) -> Verdict
-    ensures* { λ r. ⌜ (r ≡ verdict_of (open_outcome envelope tables.now (λ r. slice_index_or here r false) marks.old)) × (marks.new ≡ value_of marks.old (open_outcome envelope tables.now (λ r. slice_index_or here r false) marks.old)) ⌝ }
+    ensures { (result ≡ verdict_of (open_outcome envelope tables.now (λ r. slice_index_or here r false) marks.old)) × (marks.new ≡ value_of marks.old (open_outcome envelope tables.now (λ r. slice_index_or here r false) marks.old)) }
 {
     let read = envelopes::reading::check_envelope(envelope);
     let verdict = read.verdict;

@@ -1,0 +1,13 @@
+use Prim.Native.Nat.{◌-◌}
+use Rattle.ground.proofs.SearchingLaws.{some_from, Looking, looking_start}
+use Rattle.ends.specs.Ends.{over_at}
+use Rattle.ends.proofs.EndLaws.{over_passed, over_found, over_none}
+use borrow.Author.Rules.{rules}
+use native.Mathlib.Omega.{arith}
+use Rattle.ends.proofs.ends.is_over_applied.Given as goal
+
+abbrev pub invariant-loop-relation : goal.invariant-loop-relation
+invariant-loop-relation l = Looking some_from (over_at l.program l.applied) l.end l.relation
+
+abbrev pub decreases-loop-relation : goal.decreases-loop-relation
+decreases-loop-relation l = l.end - l.relation

@@ -1,0 +1,14 @@
+use lib.ListN.{get_or}
+use Rattle.ends.proofs.MessageCodeLaws.{product_small, counted_short, counted_over, counted_whole}
+use native.Mathlib.Omega.{arith}
+use borrow.Author.Rules.{rules}
+use Rattle.ends.proofs.messages.is_counted.Goals as goal
+
+pub returns-then-message-lt-FRONT : goal.returns-then-message-lt-FRONT
+returns-then-message-lt-FRONT c = search (counted_short, rules)
+
+pub returns-then-count-gt4096 : goal.returns-then-count-gt4096
+returns-then-count-gt4096 c = search (counted_over, rules)
+
+pub returns : goal.returns
+returns c = search (counted_whole, rules)

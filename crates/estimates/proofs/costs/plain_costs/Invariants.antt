@@ -1,0 +1,12 @@
+use Rattle.estimates.proofs.CostCodeLaws.{plain_price, plain_whole}
+use Rattle.ground.proofs.NumberingLaws.{Numbering, numbering_start, numbering_more}
+use Prim.Native.Nat.{◌-◌}
+use borrow.Author.Rules.{rules}
+use native.Mathlib.Omega.{arith}
+use Rattle.estimates.proofs.costs.plain_costs.Given as goal
+
+abbrev pub invariant-loop-k : goal.invariant-loop-k
+invariant-loop-k l = Numbering 64 0 plain_price l.k l.prices
+
+abbrev pub decreases-loop-k : goal.decreases-loop-k
+decreases-loop-k l = 64 - l.k

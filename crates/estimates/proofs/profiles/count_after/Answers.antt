@@ -1,0 +1,8 @@
+use Prim.Native.Nat.{◌+◌, ◌*◌}
+use Rattle.estimates.proofs.StepCodeLaws.{low_at, count_after_is}
+use borrow.Author.Rules.{rules}
+use Rattle.estimates.proofs.profiles.count_after.Goals as goal
+
+pub returns : goal.returns
+returns c = let a = c.args in
+    count_after_is a.envelope a.profile a.step _ _ c.count_at-count.ensures c.remaining.ensures

@@ -1,0 +1,12 @@
+use Rattle.estimates.proofs.ProfileCodeLaws.{left_at, shrunk_whole}
+use Rattle.ground.proofs.NumberingLaws.{Numbering, numbering_start, numbering_more}
+use Prim.Native.Nat.{◌-◌}
+use borrow.Author.Rules.{rules}
+use native.Mathlib.Omega.{arith}
+use Rattle.estimates.proofs.profiles.shrunk.Given as goal
+
+abbrev pub invariant-loop-k : goal.invariant-loop-k
+invariant-loop-k l = Numbering 64 0 (left_at l.profile l.place l.rows l.count) l.k l.out
+
+abbrev pub decreases-loop-k : goal.decreases-loop-k
+decreases-loop-k l = 64 - l.k

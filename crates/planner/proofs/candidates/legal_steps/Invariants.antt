@@ -1,0 +1,12 @@
+use mathlib.Core.Logic.{⊎_elim}
+use Prim.Native.Nat.{◌-◌}
+use Rattle.planner.proofs.CandidateCodeLaws.{Listing, listing_start, listing_room, listing_yes, listing_no, listing_done}
+use borrow.Author.Rules.{rules}
+use native.Mathlib.Omega.{arith}
+use Rattle.planner.proofs.candidates.legal_steps.Given as goal
+
+abbrev pub invariant-loop-k : goal.invariant-loop-k
+invariant-loop-k l = Listing l.envelope l.k l.count l.all
+
+abbrev pub decreases-loop-k : goal.decreases-loop-k
+decreases-loop-k l = 4096 - l.k

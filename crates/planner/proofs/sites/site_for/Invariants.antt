@@ -1,0 +1,12 @@
+use mathlib.Core.Logic.{⊎_elim}
+use Prim.Native.Nat.{◌-◌}
+use Rattle.planner.proofs.SiteCodeLaws.{Siting, siting_start, siting_take, siting_stay, siting_done}
+use borrow.Author.Rules.{rules}
+use native.Mathlib.Omega.{arith}
+use Rattle.planner.proofs.sites.site_for.Given as goal
+
+abbrev pub invariant-loop-site : goal.invariant-loop-site
+invariant-loop-site l = Siting l.costs l.envelope l.profile l.site l.best l.least
+
+abbrev pub decreases-loop-site : goal.decreases-loop-site
+decreases-loop-site l = 8 - l.site

@@ -1,0 +1,11 @@
+use Rattle.tables.proofs.OffsetCodeLaws.{words_fit_in, Adding, adding_start, adding_more, extent_is}
+use Prim.Native.Nat.{◌≤◌, ◌-◌}
+use borrow.Author.Rules.{rules}
+use native.Mathlib.Omega.{arith}
+use Rattle.tables.proofs.offsets.extent_of.Given as goal
+
+abbrev pub invariant-loop-i : goal.invariant-loop-i
+invariant-loop-i l = (l.i ≤ l.relation) × Adding l.envelope l.tables l.i l.word l.mark
+
+abbrev pub decreases-loop-i : goal.decreases-loop-i
+decreases-loop-i l = l.relation - l.i
