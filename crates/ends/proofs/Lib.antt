@@ -1,9 +1,8 @@
 -- The laws of specs/, under its names; MessageCodeLaws and SearchingCodeLaws are those that only returns of functions cite.
--- SoundLaws: an end that is sound by its own papers. Lends: an array of structs lent as a slice.
+-- SoundLaws: an end that is sound by its own papers.
 -- They stand on the laws of tables and papers; those of station and answerer stand on them.
 pub mod ReducingLaws
 pub mod SearchingCodeLaws
-pub mod Lends
 pub mod MessageLaws
 pub mod EndLaws
 pub mod MessageCodeLaws
