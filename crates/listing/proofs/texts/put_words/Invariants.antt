@@ -1,0 +1,12 @@
+use Rattle.listing.proofs.TextLaws.{Spelling, spelling_start, spelling_more, spelling_long, spelling_done}
+use Prim.Native.Nat.{◌-◌}
+use lib.ListN.{length}
+use borrow.Author.Rules.{rules}
+use native.Mathlib.Omega.{arith}
+use Rattle.listing.proofs.texts.put_words.Given as goal
+
+abbrev pub invariant-loop-i : goal.invariant-loop-i
+invariant-loop-i l = Spelling l.words l.initial.out l.at l.i l.out
+
+abbrev pub decreases-loop-i : goal.decreases-loop-i
+decreases-loop-i l = length l.words - l.i

@@ -1,0 +1,14 @@
+use Prim.Native.Nat.{◌-◌}
+use mathlib.Core.Logic.{⊎_elim}
+use Rattle.tables.specs.Rows.{kept_over}
+use Rattle.ground.proofs.CountingLaws.{Counting, counting_start, counting_most, counting_done}
+use Rattle.station.proofs.RowCodeLaws.{kept_counted, kept_passed}
+use borrow.Author.Rules.{rules}
+use native.Mathlib.Omega.{arith}
+use Rattle.station.proofs.rows.count_kept.Given as goal
+
+abbrev pub invariant-loop-row : goal.invariant-loop-row
+invariant-loop-row l = Counting (kept_over l.extent l.marks) l.extent.rows l.row l.n
+
+abbrev pub decreases-loop-row : goal.decreases-loop-row
+decreases-loop-row l = l.extent.rows - l.row

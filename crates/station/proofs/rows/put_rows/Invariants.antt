@@ -1,0 +1,12 @@
+use Prim.Native.Nat.{◌-◌}
+use mathlib.Core.Logic.{⊎_elim}
+use Rattle.station.proofs.RowCodeLaws.{Shipping, shipping_start, shipping_room, shipping_fits, shipping_long, shipping_yes, shipping_no, shipping_done}
+use borrow.Author.Rules.{rules}
+use native.Mathlib.Omega.{arith}
+use Rattle.station.proofs.rows.put_rows.Given as goal
+
+abbrev pub invariant-loop-row : goal.invariant-loop-row
+invariant-loop-row l = Shipping l.extent l.tables l.marks l.numbers l.count l.initial.message l.row l.at l.message
+
+abbrev pub decreases-loop-row : goal.decreases-loop-row
+decreases-loop-row l = l.extent.rows - l.row
