@@ -1,0 +1,6 @@
+use Rattle.boundary.proofs.PlanningCodeLaws.{program_is}
+use borrow.Author.Rules.{rules}
+use Rattle.boundary.proofs.planning.program_for.Goals as goal
+
+pub returns : goal.returns
+returns c = program_is _ _ _ c.plan_paper-plan.ensures c.line_steps-steps.ensures

@@ -1,0 +1,6 @@
+use Rattle.boundary.proofs.StateLaws.{end_is}
+use borrow.Author.Rules.{rules}
+use Rattle.boundary.proofs.states.end_of.Goals as goal
+
+pub returns : goal.returns
+returns c = end_is _ _ _ c.wide.ensures

@@ -1,0 +1,16 @@
+use Prim.Native.Nat.{◌-◌}
+use borrow.Author.Rules.{rules}
+use Rattle.ground.proofs.SearchingLaws.{some_from, Looking, looking_start}
+use Rattle.boundary.specs.States.{unclear_at}
+use Rattle.boundary.proofs.StateLaws.{unclear_passed, unclear_found, unclear_none}
+use native.Mathlib.Omega.{arith}
+use Rattle.boundary.proofs.states.is_unclear.Goals as goal
+
+pub returns-then-state-relation-gt1 : goal.returns-then-state-relation-gt1
+returns-then-state-relation-gt1 c = search (unclear_found, rules)
+
+pub loop-relation-preserved : goal.loop-relation-preserved
+loop-relation-preserved c = search (unclear_passed, rules)
+
+pub returns : goal.returns
+returns c = search (unclear_none, rules)

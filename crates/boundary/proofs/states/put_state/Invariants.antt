@@ -1,0 +1,12 @@
+use Prim.Native.Nat.{◌-◌}
+use Rattle.ground.proofs.PuttingLaws.{Copying, copying_start, copying_more, copying_length}
+use Rattle.boundary.proofs.StateLaws.{state_put}
+use borrow.Author.Rules.{rules}
+use native.Mathlib.Omega.{arith}
+use Rattle.boundary.proofs.states.put_state.Given as goal
+
+abbrev pub invariant-loop-i : goal.invariant-loop-i
+invariant-loop-i l = Copying l.words l.initial.state 0 19 l.i l.i l.state
+
+abbrev pub decreases-loop-i : goal.decreases-loop-i
+decreases-loop-i l = 19 - l.i
