@@ -1,7 +1,6 @@
 -- The words that the statements are made of, floor by floor, each behind the file that defines it.
-pub use Rattle.std.specs.Prelude.{ℕ, ◌+◌, ◌≤◌, ◌<◌}
-pub use mathlib.Core.{Path.◌≡◌, Bool.Bool, Bool.true, Bool.false, List.List, List.[], List.◌∷◌, List.◌++◌, List.map, List.Memᴰ as List-as-Memᴰ, Logic.◌⊎◌, Logic.◌↔◌}
-pub use lib.{ListN.length, ListN.take, ListN.get_or, ListN.replicate, Dec.eqb}
+pub use Rattle.std.specs.Prelude.{ℕ, ◌+◌, ◌≤◌, ◌<◌, ◌≡◌, Bool, true, false, List, [], ◌∷◌, ◌++◌, map, ◌⊎◌, ◌↔◌, length, take, replicate, slice_index_or, nat_eq}
+pub use mathlib.Core.{List.Memᴰ as List-as-Memᴰ}
 pub use Rattle.ground.specs.{Tests.pick, Lists.Every, Lists.filter, Lists.combinations, Lists.sum, Lists.below, Bytes.Bytes, Outcome.Outcome, Outcome.leaves, Outcome.value_of}
 pub use Rattle.ground.specs.{Outcome.Outcome.good, Outcome.Outcome.bad, Refusing.judgement, declared.Verdict.TheVariants.Taken, declared.Verdict.TheVariants.Refused}
 pub use Rattle.fields.specs.{Puts.written_from, Puts.written_in}

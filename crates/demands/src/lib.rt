@@ -2,4 +2,3 @@
 // specs/ alone says what is promised: DemandOne, DemandOneCalls, DemandTwo, DemandThree, Orderly; proofs/ shows that the calls keep it.
 // It lies above every library, so that a demand is said once of all calls; nothing lies above it.
 #![tactic(auto)]
-
