@@ -19,7 +19,6 @@ use Rattle.envelopes.specs.Envelope.{check_envelope}
 use Rattle.paths.specs.Steps.{legal, legality, legality_of}
 use Rattle.paths.specs.declared.steps.Step.{Step}
 use Rattle.paths.specs.declared.steps.Legality.{Legality}
-use Rattle.paths.specs.declared.steps.Legality.TheVariants as Legality
 use Rattle.papers.specs.Checks.{papers_of}
 use Rattle.tables.specs.Shape.{marks_tests, column_tests}
 use Rattle.semijoin.proofs.CallPromiseLaws.{call_promise}

@@ -13,7 +13,6 @@ use Rattle.ground.specs.Lists.{below, numbers_from}
 use Rattle.ground.specs.Outcome.Outcome.{good}
 use Rattle.ground.proofs.CountLaws.{split}
 use Rattle.ground.proofs.OutcomeLaws.{leaves_good}
-use Rattle.entries.specs.Places.{place}
 use Rattle.contents.specs.Parts.{relation_count}
 use Rattle.contents.specs.Sites.{site_of, is_at}
 use Rattle.contents.specs.declared.envelope.Envelope.{Envelope}

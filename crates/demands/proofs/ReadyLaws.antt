@@ -17,7 +17,6 @@ use Rattle.ground.proofs.TestLaws.{and_right, and_both}
 use Rattle.ground.proofs.ListLaws.{any_of}
 use Rattle.ground.proofs.NumbersLaws.{below_mem}
 use Rattle.ground.proofs.OutcomeLaws.{leaves_good}
-use Rattle.entries.specs.Places.{place}
 use Rattle.contents.specs.Parts.{relation_count}
 use Rattle.contents.specs.Sites.{site_of, is_at, holds}
 use Rattle.contents.specs.declared.envelope.Envelope.{Envelope}

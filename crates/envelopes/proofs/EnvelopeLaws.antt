@@ -3,7 +3,7 @@ use mathlib.Core.Path.{◌≡◌, ap, sym, ◌∙◌}
 use Prim.Native.Nat.{ℕ, ◌≤◌, ◌<◌}
 use mathlib.Core.List.{List}
 use lib.ListN.{take, replicate}
-use Rattle.ground.specs.Outcome.{Outcome, next, verdict_of, next_of, leaves}
+use Rattle.ground.specs.Outcome.{Outcome, verdict_of, next_of, leaves}
 use Rattle.ground.specs.Outcome.Outcome.{good, bad}
 use Rattle.ground.specs.declared.Verdict.TheVariants.{Taken, Refused}
 use Rattle.ground.proofs.OutcomeLaws.{taken_is, refused_is}

@@ -7,7 +7,7 @@ use Prim.Native.Nat.{ℕ, zero, suc, ◌<◌, min}
 use native.Mathlib.Omega.{arith}
 use lib.ListN.{length, get_or, length-map}
 use lib.Seq.{get_or-take}
-use Rattle.ground.specs.Lists.{Every, each, empty, below}
+use Rattle.ground.specs.Lists.{Every, empty, below}
 use Rattle.ground.proofs.ListLaws.{any_alike, get_d_map, map_alike, each_map, each_alike}
 use Rattle.ground.proofs.EveryLaws.{every_map, every_mapped, every_at, every_get_d}
 use Rattle.ground.proofs.CollectingLaws.{padded_take, padded_inside}

@@ -4,7 +4,7 @@ use mathlib.Core.List.{List}
 use Prim.Native.Nat.{ℕ, ◌+◌, ◌*◌, ◌≤◌, ◌<◌, min}
 use native.Mathlib.Omega.{arith}
 use lib.ListN.{length, get_or, get_or-eq_default}
-use Rattle.ground.specs.Lists.{sum, padded}
+use Rattle.ground.specs.Lists.{padded}
 use Rattle.ground.proofs.CountLaws.{split}
 use Rattle.ground.proofs.CollectingLaws.{padded_inside}
 use Rattle.ground.proofs.UsedLaws.{used_inside, used_outside}

@@ -20,7 +20,6 @@ use Rattle.papers.specs.declared.checks.PapersRead.{PapersRead}
 use Rattle.papers.proofs.CheckLaws.{papers_taken, papers_refused, papers_sound}
 use Rattle.estimates.specs.Profile.{benefit, after_step, local_profile}
 use Rattle.estimates.specs.Costs.{plain_costs, step_cost, assembly_at}
-use Rattle.estimates.specs.Kind.{total}
 use Rattle.estimates.specs.Estimate.{kind_of, line, no_line, lines_of, estimated, no_estimate, estimate_of}
 use Rattle.estimates.specs.Ready.{Ready}
 use Rattle.estimates.specs.Ready.{Bounded, Shrinks}

@@ -17,7 +17,6 @@ use Rattle.estimates.specs.Short.{Y}
 use Rattle.estimates.specs.Columns.{column_of, domain_size, width_of}
 use Rattle.estimates.specs.Profile.{given, shrunk, after_selection, rows_after, count_after, after_step, benefit, local_profile}
 use Rattle.estimates.specs.Costs.{plain_costs, priced, step_cost, assembly_at}
-use Rattle.estimates.specs.Kind.{total}
 use Rattle.estimates.specs.Estimate.{same_step, lines_of, estimated}
 use Rattle.planner.specs.Plan.{site_for, greedy_steps, drops_at, after_drops, planned, plan_for, no_plan, plan_of}
 use Rattle.ground.specs.Outcome.Outcome.{good, bad}

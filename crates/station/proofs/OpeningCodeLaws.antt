@@ -2,11 +2,11 @@
 use mathlib.Core.Path.{◌≡◌, refl, ap, sym, ◌∙◌, fun_ext}
 use mathlib.Core.Bool.{Bool, true, false, not}
 use mathlib.Core.List.{List, map}
-use Prim.Native.Nat.{ℕ, ◌+◌, ◌≤◌, ◌<◌, min}
+use Prim.Native.Nat.{ℕ, ◌≤◌, ◌<◌, min}
 use native.Mathlib.Omega.{arith}
-use lib.ListN.{length, get_or, set, replicate, length-map, get_or-eq_default}
+use lib.ListN.{length, get_or, length-map, get_or-eq_default}
 use borrow.Author.Tests.{lt-ltb, le-ltb, not-true, not-false}
-use Rattle.ground.specs.Lists.{below, numbers_from}
+use Rattle.ground.specs.Lists.{below}
 use Rattle.ground.specs.Outcome.{Outcome, next, verdict_of, value_of, leaves}
 use Rattle.ground.specs.Outcome.Outcome.{good, bad}
 use Rattle.ground.specs.declared.Verdict.{Verdict}
@@ -14,8 +14,7 @@ use Rattle.ground.specs.declared.Verdict.TheVariants.{Taken, Refused}
 use Rattle.ground.proofs.CountLaws.{split}
 use Rattle.ground.proofs.OutcomeLaws.{good_bad, taken_is, refused_is, leaves_good, leaves_refused}
 use Rattle.ground.proofs.ListLaws.{get_d_map}
-use Rattle.ground.proofs.NumbersLaws.{below_length, below_get_d, map_below}
-use Rattle.ground.proofs.CollectingLaws.{Collecting, collecting_start, collecting_push, padded_full}
+use Rattle.ground.proofs.NumbersLaws.{below_length, below_get_d}
 use Rattle.fields.specs.Refusals.{beyond_limit, wrong_shape, too_short}
 use Rattle.contents.specs.Sites.{is_at}
 use Rattle.envelopes.specs.Rules.{Within}

@@ -11,7 +11,6 @@ use Rattle.ground.specs.declared.Verdict.TheVariants.{Taken, Refused}
 use Rattle.ground.proofs.OutcomeLaws.{leaves_turned, verdict_turned}
 use Rattle.fields.specs.Refusals.{ends_inside, other_run, not_ours}
 use Rattle.papers.specs.Checks.{shown_papers}
-use Rattle.paths.specs.declared.steps.Step.{Step}
 use Rattle.papers.specs.declared.checks.Papers.{Papers}
 use Rattle.papers.specs.declared.checks.PapersRead.{PapersRead}
 use Rattle.ends.specs.Reducing.{step_count}

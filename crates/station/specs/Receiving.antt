@@ -11,7 +11,6 @@ use Rattle.fields.specs.Refusals.{ends_inside, other_run, not_ours, not_sound, a
 use Rattle.contents.specs.Parts.{relation_count}
 use Rattle.contents.specs.Sites.{is_at}
 use Rattle.contents.specs.Kept.{kept_columns}
-use Rattle.paths.specs.declared.steps.Step.{Step}
 use Rattle.papers.specs.declared.checks.Papers.{Papers}
 use Rattle.tables.specs.Values.{room_test}
 use Rattle.semijoin.specs.Marks.{reduced_by}

@@ -1,9 +1,6 @@
 use mathlib.Core.Path.{refl}
-use Prim.Native.Nat.{◌-◌}
-use Rattle.ground.proofs.PuttingLaws.{Copying, copying_start}
-use Rattle.estimates.specs.Estimate.{line_steps}
+use Rattle.ground.proofs.PuttingLaws.{copying_start}
 use Rattle.boundary.proofs.PlanningCodeLaws.{steps_start, steps_more, steps_done}
-use borrow.Author.Rules.{rules}
 use native.Mathlib.Omega.{arith}
 use Rattle.boundary.proofs.planning.line_steps.Goals as goal
 

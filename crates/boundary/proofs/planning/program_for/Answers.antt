@@ -1,5 +1,4 @@
 use Rattle.boundary.proofs.PlanningCodeLaws.{program_is}
-use borrow.Author.Rules.{rules}
 use Rattle.boundary.proofs.planning.program_for.Goals as goal
 
 pub returns : goal.returns

@@ -1,9 +1,6 @@
 use Prim.Native.Nat.{◌-◌}
-use Rattle.ground.proofs.WritingLaws.{Writing, writing_start, writing_place, writing_done}
+use Rattle.ground.proofs.WritingLaws.{Writing}
 use Rattle.boundary.specs.Planning.{line_words}
-use Rattle.boundary.proofs.PlanningCodeLaws.{line_puts}
-use borrow.Author.Rules.{rules}
-use native.Mathlib.Omega.{arith}
 use Rattle.boundary.proofs.planning.put_lines.Given as goal
 
 abbrev pub invariant-loop-i : goal.invariant-loop-i

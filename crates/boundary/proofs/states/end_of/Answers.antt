@@ -1,5 +1,4 @@
 use Rattle.boundary.proofs.StateLaws.{end_is}
-use borrow.Author.Rules.{rules}
 use Rattle.boundary.proofs.states.end_of.Goals as goal
 
 pub returns : goal.returns

@@ -1,9 +1,5 @@
-use Prim.Native.Nat.{◌-◌}
 use borrow.Author.Rules.{rules}
-use Rattle.ground.proofs.SearchingLaws.{some_from, Looking, looking_start}
-use Rattle.boundary.specs.States.{unclear_at}
 use Rattle.boundary.proofs.StateLaws.{unclear_passed, unclear_found, unclear_none}
-use native.Mathlib.Omega.{arith}
 use Rattle.boundary.proofs.states.is_unclear.Goals as goal
 
 pub returns-then-state-relation-gt1 : goal.returns-then-state-relation-gt1

@@ -1,9 +1,6 @@
 use Prim.Native.Nat.{◌-◌}
-use borrow.Author.Rules.{rules}
-use Rattle.ground.proofs.SearchingLaws.{some_from, Looking, looking_start}
+use Rattle.ground.proofs.SearchingLaws.{some_from, Looking}
 use Rattle.boundary.specs.States.{unclear_at}
-use Rattle.boundary.proofs.StateLaws.{unclear_passed, unclear_found, unclear_none}
-use native.Mathlib.Omega.{arith}
 use Rattle.boundary.proofs.states.is_unclear.Given as goal
 
 abbrev pub invariant-loop-relation : goal.invariant-loop-relation

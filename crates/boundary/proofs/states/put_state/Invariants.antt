@@ -1,8 +1,5 @@
 use Prim.Native.Nat.{◌-◌}
-use Rattle.ground.proofs.PuttingLaws.{Copying, copying_start, copying_more, copying_length}
-use Rattle.boundary.proofs.StateLaws.{state_put}
-use borrow.Author.Rules.{rules}
-use native.Mathlib.Omega.{arith}
+use Rattle.ground.proofs.PuttingLaws.{Copying}
 use Rattle.boundary.proofs.states.put_state.Given as goal
 
 abbrev pub invariant-loop-i : goal.invariant-loop-i

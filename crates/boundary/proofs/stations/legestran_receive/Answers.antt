@@ -1,7 +1,5 @@
 use Rattle.boundary.proofs.StationCodeLaws.{all_refused, all_taken}
 use Rattle.boundary.proofs.GivenCodeLaws.{end_long}
-use borrow.Author.Rules.{rules}
-use native.Mathlib.Omega.{arith}
 use Rattle.boundary.proofs.stations.legestran_receive.Goals as goal
 
 pub receive_given-received-requires : goal.receive_given-received-requires
@@ -11,4 +9,6 @@ pub returns-in-Refused : goal.returns-in-Refused
 returns-in-Refused c = all_refused _ _ _ _ _ _ _ _ c.read_end-read.ensures _ _ _ c.in-Refused.is c.answer_of.ensures
 
 pub returns-in-Taken : goal.returns-in-Taken
-returns-in-Taken c = all_taken _ _ _ _ _ _ _ _ c.read_end-read.ensures c.in-Taken.is _ _ _ _ _ c.receive_given-received.ensures c.of_verdict.ensures
+returns-in-Taken c =
+    all_taken _ _ _ _ _ _ _ _ c.read_end-read.ensures c.in-Taken.is _ _ _ _ _ c.receive_given-received.ensures
+    c.of_verdict.ensures

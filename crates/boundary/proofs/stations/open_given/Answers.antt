@@ -1,5 +1,4 @@
 use Rattle.boundary.proofs.OpeningCodeLaws.{given_short, given_refused, given_opened}
-use borrow.Author.Rules.{rules}
 use Rattle.boundary.proofs.stations.open_given.Goals as goal
 
 pub returns-then-state-lt-LENGTH : goal.returns-then-state-lt-LENGTH
@@ -9,4 +8,5 @@ pub returns-in-Refused : goal.returns-in-Refused
 returns-in-Refused c = given_refused _ _ _ _ _ _ _ c.if-state-lt-LENGTH.false _ _ c.open-opened.ensures _ _ c.in-Refused.is
 
 pub returns-in-Taken : goal.returns-in-Taken
-returns-in-Taken c = given_opened _ _ _ _ _ _ _ c.if-state-lt-LENGTH.false _ _ c.open-opened.ensures c.in-Taken.is _ c.put_state.ensures
+returns-in-Taken c =
+    given_opened _ _ _ _ _ _ _ c.if-state-lt-LENGTH.false _ _ c.open-opened.ensures c.in-Taken.is _ c.put_state.ensures

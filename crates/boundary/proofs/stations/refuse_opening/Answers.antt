@@ -1,5 +1,4 @@
 use Rattle.boundary.proofs.OpeningCodeLaws.{refuse_same, refuse_short}
-use borrow.Author.Rules.{rules}
 use Rattle.boundary.proofs.stations.refuse_opening.Goals as goal
 
 pub returns-in-Refused : goal.returns-in-Refused

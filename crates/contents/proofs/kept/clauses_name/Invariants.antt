@@ -1,10 +1,8 @@
 use Rattle.entries.specs.Clauses.{no_clause}
 use Prim.Native.Nat.{◌-◌}
-use Rattle.ground.proofs.SearchingLaws.{some_from, Looking, looking_start}
-use Rattle.ground.proofs.UsedLaws.{tested, used_found, used_passed, used_none}
+use Rattle.ground.proofs.SearchingLaws.{some_from, Looking}
+use Rattle.ground.proofs.UsedLaws.{tested}
 use Rattle.contents.proofs.KeptCodeLaws.{clause_names}
-use borrow.Author.Rules.{rules}
-use native.Mathlib.Omega.{arith}
 use Rattle.contents.proofs.kept.clauses_name.Given as goal
 
 abbrev pub invariant-loop-i : goal.invariant-loop-i

@@ -1,8 +1,5 @@
-use Prim.Native.Nat.{◌-◌}
-use mathlib.Core.Logic.{⊎_elim}
-use Rattle.contents.proofs.KeptCodeLaws.{Keeping, keeping_start, keeping_room, keeping_yes, keeping_no, keeping_done}
+use Rattle.contents.proofs.KeptCodeLaws.{keeping_start, keeping_room, keeping_yes, keeping_no, keeping_done}
 use borrow.Author.Rules.{rules}
-use native.Mathlib.Omega.{arith}
 use Rattle.contents.proofs.kept.kept_columns.Goals as goal
 use Rattle.contents.proofs.kept.kept_columns.Goals.{else-is_kept_column, then-is_kept_column}
 
@@ -13,7 +10,11 @@ pub bounds-numbers-slot : goal.bounds-numbers-slot
 bounds-numbers-slot c = search (keeping_room, rules)
 
 pub loop-column-preserved : goal.loop-column-preserved
-loop-column-preserved c = elim c.if-is_kept_column.branch [ then-is_kept_column w ↦ search (keeping_yes, rules) | else-is_kept_column w ↦ search (keeping_no, rules) ]
+loop-column-preserved c =
+    elim c.if-is_kept_column.branch [
+        then-is_kept_column w ↦ search (keeping_yes, rules)
+        | else-is_kept_column w ↦ search (keeping_no, rules)
+    ]
 
 pub returns : goal.returns
 returns c = search (keeping_done, rules)

@@ -1,9 +1,5 @@
-use Prim.Native.Nat.{◌-◌}
-use Rattle.ground.specs.Searching.{first_from}
-use Rattle.ground.proofs.SearchingLaws.{Looking, looking_start}
-use Rattle.contents.proofs.KeptCodeLaws.{bare, bare_found, bare_passed, bare_none}
+use Rattle.contents.proofs.KeptCodeLaws.{bare_found, bare_passed, bare_none}
 use borrow.Author.Rules.{rules}
-use native.Mathlib.Omega.{arith}
 use Rattle.contents.proofs.kept.lowest_bare.Goals as goal
 
 pub returns-then-columns-eq0 : goal.returns-then-columns-eq0

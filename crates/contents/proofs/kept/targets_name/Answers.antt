@@ -1,7 +1,5 @@
 use Rattle.entries.specs.Places.{no_place}
-use Prim.Native.Nat.{◌-◌}
-use Rattle.ground.proofs.SearchingLaws.{some_from, Looking, looking_start}
-use Rattle.ground.proofs.UsedLaws.{tested, used_found, used_passed, used_none}
+use Rattle.ground.proofs.UsedLaws.{used_passed, used_none}
 use Rattle.contents.proofs.KeptCodeLaws.{target_names}
 use borrow.Author.Rules.{rules}
 use native.Mathlib.Omega.{arith}

@@ -1,9 +1,5 @@
-use Prim.Native.Nat.{◌-◌}
-use Rattle.ground.proofs.SearchingLaws.{some_from, Looking, looking_start}
-use Rattle.contents.specs.Sites.{is_at}
 use Rattle.contents.proofs.SiteLaws.{site_found, site_passed, site_none}
 use borrow.Author.Rules.{rules}
-use native.Mathlib.Omega.{arith}
 use Rattle.contents.proofs.sites.holds_relation.Goals as goal
 
 pub returns-then-is_at : goal.returns-then-is_at

@@ -1,9 +1,6 @@
 use Prim.Native.Nat.{◌-◌}
-use Rattle.ground.proofs.SearchingLaws.{some_from, Looking, looking_start}
+use Rattle.ground.proofs.SearchingLaws.{some_from, Looking}
 use Rattle.contents.specs.Sites.{is_at}
-use Rattle.contents.proofs.SiteLaws.{site_found, site_passed, site_none}
-use borrow.Author.Rules.{rules}
-use native.Mathlib.Omega.{arith}
 use Rattle.contents.proofs.sites.holds_relation.Given as goal
 
 abbrev pub invariant-loop-i : goal.invariant-loop-i

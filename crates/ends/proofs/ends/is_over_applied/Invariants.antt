@@ -1,9 +1,6 @@
 use Prim.Native.Nat.{◌-◌}
-use Rattle.ground.proofs.SearchingLaws.{some_from, Looking, looking_start}
+use Rattle.ground.proofs.SearchingLaws.{some_from, Looking}
 use Rattle.ends.specs.Ends.{over_at}
-use Rattle.ends.proofs.EndLaws.{over_passed, over_found, over_none}
-use borrow.Author.Rules.{rules}
-use native.Mathlib.Omega.{arith}
 use Rattle.ends.proofs.ends.is_over_applied.Given as goal
 
 abbrev pub invariant-loop-relation : goal.invariant-loop-relation

@@ -1,6 +1,4 @@
-use lib.ListN.{get_or}
-use Rattle.ends.proofs.MessageCodeLaws.{product_small, counted_short, counted_over, counted_whole}
-use native.Mathlib.Omega.{arith}
+use Rattle.ends.proofs.MessageCodeLaws.{counted_short, counted_over, counted_whole}
 use borrow.Author.Rules.{rules}
 use Rattle.ends.proofs.messages.is_counted.Goals as goal
 

@@ -1,8 +1,5 @@
-use Prim.Native.Nat.{◌-◌}
-use Rattle.entries.specs.Relations.{column_bytes}
-use Rattle.ground.proofs.WritingLaws.{Writing, writing_start, writing_more, writing_place, writing_done}
+use Rattle.ground.proofs.WritingLaws.{writing_more}
 use borrow.Author.Rules.{rules}
-use native.Mathlib.Omega.{arith}
 use Rattle.envelopes.proofs.puts.put_columns.Goals as goal
 
 pub loop-i-preserved : goal.loop-i-preserved

@@ -1,8 +1,6 @@
 use Prim.Native.Nat.{◌-◌}
 use Rattle.entries.specs.Relations.{column_bytes}
-use Rattle.ground.proofs.WritingLaws.{Writing, writing_start, writing_more, writing_place, writing_done}
-use borrow.Author.Rules.{rules}
-use native.Mathlib.Omega.{arith}
+use Rattle.ground.proofs.WritingLaws.{Writing}
 use Rattle.envelopes.proofs.puts.put_columns.Given as goal
 
 abbrev pub invariant-loop-i : goal.invariant-loop-i

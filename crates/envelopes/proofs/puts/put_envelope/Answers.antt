@@ -1,5 +1,4 @@
 use Rattle.envelopes.proofs.PutCodeLaws.{put_envelope}
-use borrow.Author.Rules.{rules}
 use Rattle.envelopes.proofs.puts.put_envelope.Goals as goal
 
 pub returns : goal.returns

@@ -1,8 +1,6 @@
 use Prim.Native.Nat.{◌-◌}
 use Rattle.ground.specs.Bytes.{bytes_of}
-use Rattle.ground.proofs.WritingLaws.{Writing, writing_start, writing_more, writing_place, writing_done}
-use borrow.Author.Rules.{rules}
-use native.Mathlib.Omega.{arith}
+use Rattle.ground.proofs.WritingLaws.{Writing}
 use Rattle.envelopes.proofs.puts.put_sizes.Given as goal
 
 abbrev pub invariant-loop-i : goal.invariant-loop-i

@@ -1,5 +1,5 @@
 use Rattle.envelopes.specs.Envelope.{sizes_then}
-use Rattle.envelopes.proofs.ReadingLaws.{domains_few, then_bad, then_good}
+use Rattle.envelopes.proofs.ReadingLaws.{then_bad, then_good}
 use borrow.Author.Rules.{rules}
 use Rattle.envelopes.proofs.reading.from_sizes.Goals as goal
 

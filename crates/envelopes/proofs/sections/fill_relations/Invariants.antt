@@ -1,11 +1,6 @@
-use Rattle.contents.specs.Parts.{with_relations}
-use Rattle.entries.proofs.RelationCodeLaws.{relation_taken, relation_refused}
 use Rattle.entries.specs.Relations.{no_relation, relation_at}
 use Prim.Native.Nat.{◌-◌}
-use Rattle.ground.proofs.FillingLaws.{Filling, filling_more}
-use Rattle.envelopes.proofs.EnvelopeLaws.{filled_start, filled_bad, filled_done, relations_put}
-use borrow.Author.Rules.{rules}
-use native.Mathlib.Omega.{arith}
+use Rattle.ground.proofs.FillingLaws.{Filling}
 use Rattle.envelopes.proofs.sections.fill_relations.Given as goal
 
 abbrev pub invariant-loop-i : goal.invariant-loop-i

@@ -1,12 +1,6 @@
-use Rattle.contents.specs.Parts.{with_sizes}
-use Rattle.ground.proofs.FillingLaws.{filling_start}
-use Rattle.fields.proofs.NumberLaws.{number_good, number_bad}
 use Rattle.envelopes.specs.Envelope.{size_at}
 use Prim.Native.Nat.{◌-◌}
-use Rattle.ground.proofs.FillingLaws.{Filling, filling_more}
-use Rattle.envelopes.proofs.EnvelopeLaws.{filled_start, filled_bad, filled_done, sizes_put}
-use borrow.Author.Rules.{rules}
-use native.Mathlib.Omega.{arith}
+use Rattle.ground.proofs.FillingLaws.{Filling}
 use Rattle.envelopes.proofs.sections.fill_sizes.Given as goal
 
 abbrev pub invariant-loop-i : goal.invariant-loop-i

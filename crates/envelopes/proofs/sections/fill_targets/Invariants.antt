@@ -1,11 +1,6 @@
-use Rattle.contents.specs.Parts.{with_targets}
-use Rattle.entries.proofs.PlaceCodeLaws.{place_good, place_bad}
 use Rattle.entries.specs.Places.{no_place, place_at}
 use Prim.Native.Nat.{◌-◌}
-use Rattle.ground.proofs.FillingLaws.{Filling, filling_more}
-use Rattle.envelopes.proofs.EnvelopeLaws.{filled_start, filled_bad, filled_done, targets_put}
-use borrow.Author.Rules.{rules}
-use native.Mathlib.Omega.{arith}
+use Rattle.ground.proofs.FillingLaws.{Filling}
 use Rattle.envelopes.proofs.sections.fill_targets.Given as goal
 
 abbrev pub invariant-loop-i : goal.invariant-loop-i

@@ -1,7 +1,5 @@
-use Rattle.estimates.proofs.ColumnCodeLaws.{Widening, widening_start, widening_more, widening_done}
-use Prim.Native.Nat.{◌-◌}
+use Rattle.estimates.proofs.ColumnCodeLaws.{widening_start, widening_more, widening_done}
 use borrow.Author.Rules.{rules}
-use native.Mathlib.Omega.{arith}
 use Rattle.estimates.proofs.columns.width_of.Goals as goal
 
 pub loop-i-init : goal.loop-i-init

@@ -1,7 +1,5 @@
-use Rattle.estimates.proofs.ColumnCodeLaws.{Widening, widening_start, widening_more, widening_done}
+use Rattle.estimates.proofs.ColumnCodeLaws.{Widening}
 use Prim.Native.Nat.{◌-◌}
-use borrow.Author.Rules.{rules}
-use native.Mathlib.Omega.{arith}
 use Rattle.estimates.proofs.columns.width_of.Given as goal
 
 abbrev pub invariant-loop-i : goal.invariant-loop-i

@@ -1,7 +1,5 @@
-use Rattle.estimates.proofs.CostCodeLaws.{Assembling, assembling_start, sent_few, assembling_more, assembling_done}
+use Rattle.estimates.proofs.CostCodeLaws.{Assembling}
 use Prim.Native.Nat.{◌-◌}
-use borrow.Author.Rules.{rules}
-use native.Mathlib.Omega.{arith}
 use Rattle.estimates.proofs.costs.assembly_at.Given as goal
 
 abbrev pub invariant-loop-relation : goal.invariant-loop-relation

@@ -1,7 +1,7 @@
-use native.Mathlib.Omega.{arith}
-use Rattle.estimates.proofs.CostCodeLaws.{lost_most, benefit_is}
-use borrow.Author.Rules.{rules}
+use Rattle.estimates.proofs.CostCodeLaws.{benefit_is}
 use Rattle.estimates.proofs.costs.benefit.Goals as goal
 
 pub returns : goal.returns
-returns c = let a = c.args in benefit_is a.envelope a.profile a.step _ _ _ c.width_at-width.ensures c.rows_at-before.ensures c.rows_after-after.ensures
+returns c =
+    let a = c.args in
+    benefit_is a.envelope a.profile a.step _ _ _ c.width_at-width.ensures c.rows_at-before.ensures c.rows_after-after.ensures

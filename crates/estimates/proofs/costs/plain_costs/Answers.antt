@@ -1,8 +1,6 @@
-use Rattle.estimates.proofs.CostCodeLaws.{plain_price, plain_whole}
-use Rattle.ground.proofs.NumberingLaws.{Numbering, numbering_start, numbering_more}
-use Prim.Native.Nat.{◌-◌}
+use Rattle.estimates.proofs.CostCodeLaws.{plain_whole}
+use Rattle.ground.proofs.NumberingLaws.{numbering_start, numbering_more}
 use borrow.Author.Rules.{rules}
-use native.Mathlib.Omega.{arith}
 use Rattle.estimates.proofs.costs.plain_costs.Goals as goal
 
 pub loop-k-init : goal.loop-k-init

@@ -1,8 +1,6 @@
-use Rattle.estimates.proofs.CostCodeLaws.{plain_price, plain_whole}
-use Rattle.ground.proofs.NumberingLaws.{Numbering, numbering_start, numbering_more}
+use Rattle.estimates.proofs.CostCodeLaws.{plain_price}
+use Rattle.ground.proofs.NumberingLaws.{Numbering}
 use Prim.Native.Nat.{◌-◌}
-use borrow.Author.Rules.{rules}
-use native.Mathlib.Omega.{arith}
 use Rattle.estimates.proofs.costs.plain_costs.Given as goal
 
 abbrev pub invariant-loop-k : goal.invariant-loop-k

@@ -1,6 +1,4 @@
-use native.Mathlib.Omega.{arith}
-use Rattle.estimates.proofs.CostCodeLaws.{priced_small, priced_is}
-use borrow.Author.Rules.{rules}
+use Rattle.estimates.proofs.CostCodeLaws.{priced_is}
 use Rattle.estimates.proofs.costs.priced.Goals as goal
 
 pub returns : goal.returns

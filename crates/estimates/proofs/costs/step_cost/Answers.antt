@@ -1,9 +1,8 @@
-use Prim.Native.Nat.{◌+◌, ◌*◌}
-use Prim.Native.Nat.{◌<◌}
-use native.Mathlib.Omega.{arith}
-use Rattle.estimates.proofs.CostCodeLaws.{cost_size, cost_is}
-use borrow.Author.Rules.{rules}
+use Rattle.estimates.proofs.CostCodeLaws.{cost_is}
 use Rattle.estimates.proofs.costs.step_cost.Goals as goal
 
 pub returns : goal.returns
-returns c = let a = c.args in cost_is a.costs a.envelope a.profile a.step _ _ _ _ _ c.column_of-column.ensures c.count_at-count.ensures c.site_of-sender.ensures c.site_of-receiver.ensures c.priced.ensures
+returns c =
+    let a = c.args in
+    cost_is a.costs a.envelope a.profile a.step _ _ _ _ _ c.column_of-column.ensures c.count_at-count.ensures
+    c.site_of-sender.ensures c.site_of-receiver.ensures c.priced.ensures

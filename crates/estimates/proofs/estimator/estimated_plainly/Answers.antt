@@ -1,4 +1,4 @@
-use Rattle.estimates.proofs.EstimatorCodeLaws.{plain_ready, plain_estimate}
+use Rattle.estimates.proofs.EstimatorCodeLaws.{plain_ready}
 use borrow.Author.Rules.{rules}
 use Rattle.estimates.proofs.estimator.estimated_plainly.Goals as goal
 

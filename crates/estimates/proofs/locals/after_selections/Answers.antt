@@ -1,7 +1,5 @@
-use Rattle.estimates.proofs.LocalCodeLaws.{Applying, applying_start, applying_more, applying_done, labelled_few}
-use Prim.Native.Nat.{◌-◌}
+use Rattle.estimates.proofs.LocalCodeLaws.{applying_start, applying_more, applying_done, labelled_few}
 use borrow.Author.Rules.{rules}
-use native.Mathlib.Omega.{arith}
 use Rattle.estimates.proofs.locals.after_selections.Goals as goal
 
 pub loop-i-init : goal.loop-i-init

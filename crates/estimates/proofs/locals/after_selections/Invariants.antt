@@ -1,7 +1,5 @@
-use Rattle.estimates.proofs.LocalCodeLaws.{Applying, applying_start, applying_more, applying_done, labelled_few}
+use Rattle.estimates.proofs.LocalCodeLaws.{Applying}
 use Prim.Native.Nat.{◌-◌}
-use borrow.Author.Rules.{rules}
-use native.Mathlib.Omega.{arith}
 use Rattle.estimates.proofs.locals.after_selections.Given as goal
 
 abbrev pub invariant-loop-i : goal.invariant-loop-i

@@ -1,7 +1,5 @@
-use Rattle.estimates.proofs.LocalCodeLaws.{Localizing, localizing_start, localizing_more, localizing_done}
-use Prim.Native.Nat.{◌-◌}
+use Rattle.estimates.proofs.LocalCodeLaws.{localizing_start, localizing_more, localizing_done}
 use borrow.Author.Rules.{rules}
-use native.Mathlib.Omega.{arith}
 use Rattle.estimates.proofs.locals.local_profile.Goals as goal
 
 pub loop-relation-init : goal.loop-relation-init

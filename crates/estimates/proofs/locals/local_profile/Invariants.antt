@@ -1,7 +1,5 @@
-use Rattle.estimates.proofs.LocalCodeLaws.{Localizing, localizing_start, localizing_more, localizing_done}
+use Rattle.estimates.proofs.LocalCodeLaws.{Localizing}
 use Prim.Native.Nat.{◌-◌}
-use borrow.Author.Rules.{rules}
-use native.Mathlib.Omega.{arith}
 use Rattle.estimates.proofs.locals.local_profile.Given as goal
 
 abbrev pub invariant-loop-relation : goal.invariant-loop-relation

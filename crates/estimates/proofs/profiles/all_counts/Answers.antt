@@ -1,8 +1,6 @@
-use Rattle.estimates.proofs.ProfileCodeLaws.{count_in, counts_given}
-use Rattle.ground.proofs.NumberingLaws.{Numbering, numbering_start, numbering_more}
-use Prim.Native.Nat.{◌-◌}
+use Rattle.estimates.proofs.ProfileCodeLaws.{counts_given}
+use Rattle.ground.proofs.NumberingLaws.{numbering_start, numbering_more}
 use borrow.Author.Rules.{rules}
-use native.Mathlib.Omega.{arith}
 use Rattle.estimates.proofs.profiles.all_counts.Goals as goal
 
 pub loop-k-init : goal.loop-k-init

@@ -1,8 +1,6 @@
-use Rattle.estimates.proofs.ProfileCodeLaws.{count_in, counts_given}
-use Rattle.ground.proofs.NumberingLaws.{Numbering, numbering_start, numbering_more}
+use Rattle.estimates.proofs.ProfileCodeLaws.{count_in}
+use Rattle.ground.proofs.NumberingLaws.{Numbering}
 use Prim.Native.Nat.{◌-◌}
-use borrow.Author.Rules.{rules}
-use native.Mathlib.Omega.{arith}
 use Rattle.estimates.proofs.profiles.all_counts.Given as goal
 
 abbrev pub invariant-loop-k : goal.invariant-loop-k

@@ -1,8 +1,6 @@
-use Rattle.estimates.proofs.ProfileCodeLaws.{rows_in, rows_given}
-use Rattle.ground.proofs.NumberingLaws.{Numbering, numbering_start, numbering_more}
-use Prim.Native.Nat.{◌-◌}
+use Rattle.estimates.proofs.ProfileCodeLaws.{rows_given}
+use Rattle.ground.proofs.NumberingLaws.{numbering_start, numbering_more}
 use borrow.Author.Rules.{rules}
-use native.Mathlib.Omega.{arith}
 use Rattle.estimates.proofs.profiles.all_rows.Goals as goal
 
 pub loop-relation-init : goal.loop-relation-init

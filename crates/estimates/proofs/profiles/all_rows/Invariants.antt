@@ -1,8 +1,6 @@
-use Rattle.estimates.proofs.ProfileCodeLaws.{rows_in, rows_given}
-use Rattle.ground.proofs.NumberingLaws.{Numbering, numbering_start, numbering_more}
+use Rattle.estimates.proofs.ProfileCodeLaws.{rows_in}
+use Rattle.ground.proofs.NumberingLaws.{Numbering}
 use Prim.Native.Nat.{◌-◌}
-use borrow.Author.Rules.{rules}
-use native.Mathlib.Omega.{arith}
 use Rattle.estimates.proofs.profiles.all_rows.Given as goal
 
 abbrev pub invariant-loop-relation : goal.invariant-loop-relation

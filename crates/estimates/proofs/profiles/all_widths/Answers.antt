@@ -1,9 +1,6 @@
-use Rattle.estimates.specs.Columns.{width_of}
 use Rattle.estimates.proofs.ProfileCodeLaws.{widths_given}
-use Rattle.ground.proofs.NumberingLaws.{Numbering, numbering_start, numbering_more}
-use Prim.Native.Nat.{◌-◌}
+use Rattle.ground.proofs.NumberingLaws.{numbering_start, numbering_more}
 use borrow.Author.Rules.{rules}
-use native.Mathlib.Omega.{arith}
 use Rattle.estimates.proofs.profiles.all_widths.Goals as goal
 
 pub loop-relation-init : goal.loop-relation-init

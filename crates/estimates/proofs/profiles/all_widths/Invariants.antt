@@ -1,9 +1,6 @@
 use Rattle.estimates.specs.Columns.{width_of}
-use Rattle.estimates.proofs.ProfileCodeLaws.{widths_given}
-use Rattle.ground.proofs.NumberingLaws.{Numbering, numbering_start, numbering_more}
+use Rattle.ground.proofs.NumberingLaws.{Numbering}
 use Prim.Native.Nat.{◌-◌}
-use borrow.Author.Rules.{rules}
-use native.Mathlib.Omega.{arith}
 use Rattle.estimates.proofs.profiles.all_widths.Given as goal
 
 abbrev pub invariant-loop-relation : goal.invariant-loop-relation

@@ -1,6 +1,4 @@
-use Prim.Native.Nat.{◌+◌, ◌*◌}
-use Rattle.estimates.proofs.StepCodeLaws.{low_at, count_after_is}
-use borrow.Author.Rules.{rules}
+use Rattle.estimates.proofs.StepCodeLaws.{count_after_is}
 use Rattle.estimates.proofs.profiles.count_after.Goals as goal
 
 pub returns : goal.returns

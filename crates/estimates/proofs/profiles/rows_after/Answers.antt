@@ -1,5 +1,4 @@
-use Rattle.estimates.proofs.StepCodeLaws.{low_at, rows_after_is}
-use borrow.Author.Rules.{rules}
+use Rattle.estimates.proofs.StepCodeLaws.{rows_after_is}
 use Rattle.estimates.proofs.profiles.rows_after.Goals as goal
 
 pub returns : goal.returns

@@ -1,8 +1,6 @@
-use Rattle.estimates.proofs.ProfileCodeLaws.{left_at, shrunk_whole}
-use Rattle.ground.proofs.NumberingLaws.{Numbering, numbering_start, numbering_more}
-use Prim.Native.Nat.{◌-◌}
+use Rattle.estimates.proofs.ProfileCodeLaws.{shrunk_whole}
+use Rattle.ground.proofs.NumberingLaws.{numbering_start, numbering_more}
 use borrow.Author.Rules.{rules}
-use native.Mathlib.Omega.{arith}
 use Rattle.estimates.proofs.profiles.shrunk.Goals as goal
 
 pub loop-k-init : goal.loop-k-init

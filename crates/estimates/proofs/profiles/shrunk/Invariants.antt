@@ -1,8 +1,6 @@
-use Rattle.estimates.proofs.ProfileCodeLaws.{left_at, shrunk_whole}
-use Rattle.ground.proofs.NumberingLaws.{Numbering, numbering_start, numbering_more}
+use Rattle.estimates.proofs.ProfileCodeLaws.{left_at}
+use Rattle.ground.proofs.NumberingLaws.{Numbering}
 use Prim.Native.Nat.{◌-◌}
-use borrow.Author.Rules.{rules}
-use native.Mathlib.Omega.{arith}
 use Rattle.estimates.proofs.profiles.shrunk.Given as goal
 
 abbrev pub invariant-loop-k : goal.invariant-loop-k

@@ -2,14 +2,6 @@ use Rattle.fields.proofs.PutLaws.{sets_out, put_width, put_one, put_four}
 use borrow.Author.Rules.{rules}
 use Rattle.fields.proofs.puts.put_number.Goals as goal
 
--- TODO no goal overflow-cast-put-byte
--- cast-put-byte : tie.Need-overflow-cast-put-byte
--- cast-put-byte c = search rules
-
--- TODO no goal overflow-add-put-two
--- add-put-two : tie.Need-overflow-add-put-two
--- add-put-two c = search rules
-
 pub returns-then-out-at : goal.returns-then-out-at
 returns-then-out-at c = search (sets_out, rules)
 

@@ -2,14 +2,6 @@ use Rattle.fields.proofs.HeadCodeLaws.{marked_first, marked_second, marked_third
 use borrow.Author.Rules.{rules}
 use Rattle.fields.proofs.reader.is_marked.Goals as goal
 
--- TODO no goal overflow-add-if2
--- add-if2 : tie.Need-overflow-add-if2
--- add-if2 c = omega arith
-
--- TODO no goal overflow-add-result
--- add-result : tie.Need-overflow-add-result
--- add-result c = omega arith
-
 pub returns-then-s-at : goal.returns-then-s-at
 returns-then-s-at c = search (marked_first, rules)
 

@@ -3,10 +3,6 @@ use Rattle.fields.proofs.HeadCodeLaws.{mark_short, mark_wrong, mark_right}
 use borrow.Author.Rules.{rules}
 use Rattle.fields.proofs.reader.mark_from.Goals as goal
 
--- TODO no goal overflow-sub-if2
--- sub-if2 : tie.Need-overflow-sub-if2
--- sub-if2 c = search rules
-
 pub returns-then-s-at : goal.returns-then-s-at
 returns-then-s-at c = mark_short _ _ _ _ _ (omega arith)
 

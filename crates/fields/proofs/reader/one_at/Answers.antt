@@ -2,10 +2,6 @@ use native.Mathlib.Omega.{arith}
 use Rattle.fields.proofs.NumberLaws.{number_short, number_is, one_byte}
 use Rattle.fields.proofs.reader.one_at.Goals as goal
 
--- TODO no goal overflow-add-t3
--- add-t3 : tie.Need-overflow-add-t3
--- add-t3 c = search rules
-
 pub returns-then-s-at : goal.returns-then-s-at
 returns-then-s-at c = number_short _ _ _ (omega arith)
 

@@ -1,8 +1,6 @@
-use Rattle.ground.proofs.WritingLaws.{Writing, writing_start, writing_more, writing_place, writing_done}
+use Rattle.ground.proofs.WritingLaws.{Writing}
 use Rattle.listing.specs.Listing.{step_line}
 use Prim.Native.Nat.{◌-◌}
-use borrow.Author.Rules.{rules}
-use native.Mathlib.Omega.{arith}
 use Rattle.listing.proofs.listing.put_step_lines.Given as goal
 
 abbrev pub invariant-loop-i : goal.invariant-loop-i

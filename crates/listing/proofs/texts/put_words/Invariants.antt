@@ -1,8 +1,6 @@
-use Rattle.listing.proofs.TextLaws.{Spelling, spelling_start, spelling_more, spelling_long, spelling_done}
+use Rattle.listing.proofs.TextLaws.{Spelling}
 use Prim.Native.Nat.{◌-◌}
 use lib.ListN.{length}
-use borrow.Author.Rules.{rules}
-use native.Mathlib.Omega.{arith}
 use Rattle.listing.proofs.texts.put_words.Given as goal
 
 abbrev pub invariant-loop-i : goal.invariant-loop-i

@@ -1,9 +1,7 @@
 use Rattle.paths.specs.Steps.{legal_by}
 use Rattle.paths.specs.Labels.{by_labels}
 use Prim.Native.Nat.{◌-◌}
-use Rattle.papers.proofs.ProgramCodeLaws.{Steps, steps_start, steps_more, steps_bad, steps_left, steps_done}
-use borrow.Author.Rules.{rules}
-use native.Mathlib.Omega.{arith}
+use Rattle.papers.proofs.ProgramCodeLaws.{Steps}
 use Rattle.papers.proofs.programs.from_steps.Given as goal
 
 abbrev pub invariant-loop-i : goal.invariant-loop-i

@@ -1,5 +1,4 @@
 use Rattle.papers.proofs.PutCodeLaws.{put_program}
-use borrow.Author.Rules.{rules}
 use Rattle.papers.proofs.puts.put_program.Goals as goal
 
 pub returns : goal.returns

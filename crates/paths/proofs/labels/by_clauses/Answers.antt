@@ -1,5 +1,5 @@
 use Rattle.ground.specs.Lists.{numbers_from}
-use Rattle.paths.proofs.LabelCodeLaws.{Labelling, labelling_start, labelling_more, labelling_done}
+use Rattle.paths.proofs.LabelCodeLaws.{labelling_start, labelling_more}
 use borrow.Author.Rules.{rules}
 use native.Mathlib.Omega.{arith}
 use Rattle.paths.proofs.labels.by_clauses.Goals as goal

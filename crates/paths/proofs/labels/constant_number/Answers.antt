@@ -1,9 +1,5 @@
-use Prim.Native.Nat.{◌-◌}
-use Rattle.ground.specs.Searching.{first_from}
-use Rattle.ground.proofs.SearchingLaws.{Looking, looking_start}
-use Rattle.paths.proofs.LabelCodeLaws.{selecting, constant_found, constant_passed, constant_none}
+use Rattle.paths.proofs.LabelCodeLaws.{constant_found, constant_passed, constant_none}
 use borrow.Author.Rules.{rules}
-use native.Mathlib.Omega.{arith}
 use Rattle.paths.proofs.labels.constant_number.Goals as goal
 
 pub returns-then-kind_selects : goal.returns-then-kind_selects

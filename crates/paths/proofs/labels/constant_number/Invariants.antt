@@ -1,9 +1,7 @@
 use Prim.Native.Nat.{◌-◌}
 use Rattle.ground.specs.Searching.{first_from}
-use Rattle.ground.proofs.SearchingLaws.{Looking, looking_start}
-use Rattle.paths.proofs.LabelCodeLaws.{selecting, constant_found, constant_passed, constant_none}
-use borrow.Author.Rules.{rules}
-use native.Mathlib.Omega.{arith}
+use Rattle.ground.proofs.SearchingLaws.{Looking}
+use Rattle.paths.proofs.LabelCodeLaws.{selecting}
 use Rattle.paths.proofs.labels.constant_number.Given as goal
 
 abbrev pub invariant-loop-i : goal.invariant-loop-i

@@ -1,9 +1,5 @@
-use borrow.Author.Rules.{rules}
-use mathlib.Core.Logic.{⊎_elim}
 use Prim.Native.Nat.{◌-◌}
-use Rattle.ground.proofs.MappingLaws.{mapping_start}
-use Rattle.paths.proofs.LabelCodeLaws.{Relabelling, relabel_hit, relabel_miss, relabel_done}
-use native.Mathlib.Omega.{arith}
+use Rattle.paths.proofs.LabelCodeLaws.{Relabelling}
 use Rattle.paths.proofs.labels.relabelled.Given as goal
 
 abbrev pub invariant-loop-i : goal.invariant-loop-i

@@ -1,8 +1,5 @@
-use mathlib.Core.Logic.{⊎_elim}
-use Prim.Native.Nat.{◌-◌}
-use Rattle.planner.proofs.CandidateCodeLaws.{Listing, listing_start, listing_room, listing_yes, listing_no, listing_done}
+use Rattle.planner.proofs.CandidateCodeLaws.{listing_start, listing_room, listing_yes, listing_no, listing_done}
 use borrow.Author.Rules.{rules}
-use native.Mathlib.Omega.{arith}
 use Rattle.planner.proofs.candidates.legal_steps.Goals as goal
 use Rattle.planner.proofs.candidates.legal_steps.Goals.{else-legal_by, then-legal_by}
 
@@ -13,7 +10,11 @@ pub bounds-all-slot : goal.bounds-all-slot
 bounds-all-slot c = search (listing_room, rules)
 
 pub loop-k-preserved : goal.loop-k-preserved
-loop-k-preserved c = elim c.if-legal_by.branch [ then-legal_by w ↦ search (listing_yes, rules) | else-legal_by w ↦ search (listing_no, rules) ]
+loop-k-preserved c =
+    elim c.if-legal_by.branch [
+        then-legal_by w ↦ search (listing_yes, rules)
+        | else-legal_by w ↦ search (listing_no, rules)
+    ]
 
 pub returns : goal.returns
 returns c = search (listing_done, rules)

@@ -1,8 +1,5 @@
-use mathlib.Core.Logic.{⊎_elim}
 use Prim.Native.Nat.{◌-◌}
-use Rattle.planner.proofs.CandidateCodeLaws.{Listing, listing_start, listing_room, listing_yes, listing_no, listing_done}
-use borrow.Author.Rules.{rules}
-use native.Mathlib.Omega.{arith}
+use Rattle.planner.proofs.CandidateCodeLaws.{Listing}
 use Rattle.planner.proofs.candidates.legal_steps.Given as goal
 
 abbrev pub invariant-loop-k : goal.invariant-loop-k

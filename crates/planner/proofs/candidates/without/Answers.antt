@@ -1,8 +1,5 @@
-use mathlib.Core.Logic.{⊎_elim}
-use Prim.Native.Nat.{◌-◌}
-use Rattle.planner.proofs.CandidateCodeLaws.{Removing, removing_start, removing_room, removing_yes, removing_no, removing_done}
+use Rattle.planner.proofs.CandidateCodeLaws.{removing_start, removing_room, removing_yes, removing_no}
 use borrow.Author.Rules.{rules}
-use native.Mathlib.Omega.{arith}
 use Rattle.planner.proofs.candidates.without.Goals as goal
 use Rattle.planner.proofs.candidates.without.Goals.{else-not-same_step, then-not-same_step}
 
@@ -13,4 +10,8 @@ pub bounds-all-slot : goal.bounds-all-slot
 bounds-all-slot c = search (removing_room, rules)
 
 pub loop-i-preserved : goal.loop-i-preserved
-loop-i-preserved c = elim c.if-not-same_step.branch [ then-not-same_step w ↦ search (removing_yes, rules) | else-not-same_step w ↦ search (removing_no, rules) ]
+loop-i-preserved c =
+    elim c.if-not-same_step.branch [
+        then-not-same_step w ↦ search (removing_yes, rules)
+        | else-not-same_step w ↦ search (removing_no, rules)
+    ]

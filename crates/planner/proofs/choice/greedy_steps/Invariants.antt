@@ -1,5 +1,4 @@
-use Rattle.planner.proofs.ChoiceCodeLaws.{Planning, planning_start, planning_few, planning_bounded, planning_shrinks, planning_done, planning_room, planning_ready, planning_less, planning_more}
-use borrow.Author.Rules.{rules}
+use Rattle.planner.proofs.ChoiceCodeLaws.{Planning}
 use Rattle.planner.proofs.choice.greedy_steps.Given as goal
 
 abbrev pub invariant-loop-step : goal.invariant-loop-step

@@ -1,8 +1,5 @@
-use mathlib.Core.Logic.{⊎_elim}
 use Prim.Native.Nat.{◌-◌}
-use Rattle.planner.proofs.DropCodeLaws.{Dropping, dropping_start, kept_few, fewer_few, shorter_acceptable, dropping_yes, dropping_no, dropping_done}
-use borrow.Author.Rules.{rules}
-use native.Mathlib.Omega.{arith}
+use Rattle.planner.proofs.DropCodeLaws.{Dropping}
 use Rattle.planner.proofs.drops.dropped.Given as goal
 
 abbrev pub invariant-loop-i : goal.invariant-loop-i

@@ -9,7 +9,10 @@ pub assembly_at-alone-requires : goal.assembly_at-alone-requires
 assembly_at-alone-requires c = (local_sited c.args.costs c.args.envelope c.args.local c.requires).0
 
 pub estimated-estimate-requires : goal.estimated-estimate-requires
-estimated-estimate-requires c = (c.requires, planned_acceptable c.args.costs c.args.envelope c.args.local c.requires _ c.planned-program.ensures)
+estimated-estimate-requires c =
+    (c.requires, planned_acceptable c.args.costs c.args.envelope c.args.local c.requires _ c.planned-program.ensures)
 
 pub returns : goal.returns
-returns c = plan_is c.args.costs c.args.envelope c.args.local c.requires _ c.planned-program.ensures _ c.estimated-estimate.ensures _ _ c.site_for-home.ensures c.assembly_at-alone.ensures
+returns c =
+    plan_is c.args.costs c.args.envelope c.args.local c.requires _ c.planned-program.ensures _ c.estimated-estimate.ensures _ _
+    c.site_for-home.ensures c.assembly_at-alone.ensures

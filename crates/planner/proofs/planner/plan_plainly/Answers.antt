@@ -1,4 +1,3 @@
-use Rattle.planner.proofs.PlannerCodeLaws.{plain_plan}
 use Rattle.estimates.proofs.EstimatorCodeLaws.{plain_ready}
 use borrow.Author.Rules.{rules}
 use Rattle.planner.proofs.planner.plan_plainly.Goals as goal

@@ -1,8 +1,5 @@
-use mathlib.Core.Logic.{⊎_elim}
 use Prim.Native.Nat.{◌-◌}
-use Rattle.planner.proofs.SiteCodeLaws.{Siting, siting_start, siting_take, siting_stay, siting_done}
-use borrow.Author.Rules.{rules}
-use native.Mathlib.Omega.{arith}
+use Rattle.planner.proofs.SiteCodeLaws.{Siting}
 use Rattle.planner.proofs.sites.site_for.Given as goal
 
 abbrev pub invariant-loop-site : goal.invariant-loop-site

@@ -1,6 +1,4 @@
-use Rattle.ground.proofs.UsedLaws.{tested, used_found, used_passed, used_none}
-use Rattle.ground.proofs.SearchingLaws.{some_from, Looking, looking_start}
-use Prim.Native.Nat.{◌-◌}
+use Rattle.ground.proofs.UsedLaws.{used_found, used_passed, used_none}
 use mathlib.Core.List.{[]}
 use lib.ListN.{get_or}
 use Rattle.tables.specs.Offsets.{rows_over}
@@ -11,10 +9,19 @@ use native.Mathlib.Omega.{arith}
 use Rattle.semijoin.proofs.local.breaks_some_selection.Goals as goal
 
 pub returns-then-breaks_selection : goal.returns-then-breaks_selection
-returns-then-breaks_selection c = let a = c.args in search (used_found (breaks_selection (get_or (rows_over a.extent a.tables.now) a.row [])) (selected 0 0) a.all 96 a.n (omega arith), rules)
+returns-then-breaks_selection c =
+    let a = c.args in
+    search (used_found (breaks_selection (get_or (rows_over a.extent a.tables.now) a.row [])) (selected 0 0) a.all 96 a.n (omega
+    arith), rules)
 
 pub loop-i-preserved : goal.loop-i-preserved
-loop-i-preserved c = let a = c.args in search (used_passed (breaks_selection (get_or (rows_over a.extent a.tables.now) a.row [])) (selected 0 0) a.all 96 a.n (omega arith), rules)
+loop-i-preserved c =
+    let a = c.args in
+    search (used_passed (breaks_selection (get_or (rows_over a.extent a.tables.now) a.row [])) (selected 0 0) a.all 96 a.n
+    (omega arith), rules)
 
 pub returns : goal.returns
-returns c = let a = c.args in search (used_none (breaks_selection (get_or (rows_over a.extent a.tables.now) a.row [])) (selected 0 0) a.all 96 a.n (omega arith), rules)
+returns c =
+    let a = c.args in
+    search (used_none (breaks_selection (get_or (rows_over a.extent a.tables.now) a.row [])) (selected 0 0) a.all 96 a.n (omega
+    arith), rules)

@@ -1,9 +1,9 @@
 use Rattle.contents.specs.Parts.{relation_count}
-use Prim.Native.Nat.{◌<◌, ◌-◌}
+use Prim.Native.Nat.{◌<◌}
 use mathlib.Core.Bool.{false}
 use lib.ListN.{get_or}
 use Rattle.tables.proofs.ShapeLaws.{marks_there}
-use Rattle.semijoin.proofs.LocalCodeLaws.{OpeningAll, opening_all_start, opening_all_more, opening_all_done}
+use Rattle.semijoin.proofs.LocalCodeLaws.{opening_all_start, opening_all_more, opening_all_done}
 use borrow.Author.Rules.{rules}
 use native.Mathlib.Omega.{arith}
 use Rattle.semijoin.proofs.local.open_all.Goals as goal
@@ -17,7 +17,12 @@ open_rows-requires c = let h : c.loop-relation.relation < relation_count c.args.
     marks_there c.args.envelope c.args.tables.now _ _ x h _ (omega (arith, c.loop-relation.invariant.long))
 
 pub loop-relation-preserved : goal.loop-relation-preserved
-loop-relation-preserved c = opening_all_more c.args.envelope c.args.tables.now (λ r. get_or c.args.here r false) _ _ _ _ c.loop-relation.invariant c.requires.0 _ c.labels_of-labels.ensures _ c.extent_of-extent.ensures _ c.selections_by-selections.ensures _ c.equalities_by-equalities.ensures c.loop-relation-test.true _ c.open_rows.ensures
+loop-relation-preserved c =
+    opening_all_more c.args.envelope c.args.tables.now (λ r. get_or c.args.here r false) _ _ _ _ c.loop-relation.invariant
+    c.requires.0 _ c.labels_of-labels.ensures _ c.extent_of-extent.ensures _ c.selections_by-selections.ensures _
+    c.equalities_by-equalities.ensures c.loop-relation-test.true _ c.open_rows.ensures
 
 pub returns : goal.returns
-returns c = opening_all_done c.args.envelope c.args.tables.now (λ r. get_or c.args.here r false) _ _ _ _ c.loop-relation.invariant c.loop-relation-test.false c.in_use-end.ensures
+returns c =
+    opening_all_done c.args.envelope c.args.tables.now (λ r. get_or c.args.here r false) _ _ _ _ c.loop-relation.invariant
+    c.loop-relation-test.false c.in_use-end.ensures

@@ -1,11 +1,7 @@
-use Rattle.contents.specs.Parts.{relation_count}
-use Prim.Native.Nat.{◌<◌, ◌-◌}
+use Prim.Native.Nat.{◌-◌}
 use mathlib.Core.Bool.{false}
 use lib.ListN.{get_or}
-use Rattle.tables.proofs.ShapeLaws.{marks_there}
-use Rattle.semijoin.proofs.LocalCodeLaws.{OpeningAll, opening_all_start, opening_all_more, opening_all_done}
-use borrow.Author.Rules.{rules}
-use native.Mathlib.Omega.{arith}
+use Rattle.semijoin.proofs.LocalCodeLaws.{OpeningAll}
 use Rattle.semijoin.proofs.local.open_all.Given as goal
 
 abbrev pub invariant-loop-relation : goal.invariant-loop-relation

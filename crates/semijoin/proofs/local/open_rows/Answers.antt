@@ -1,9 +1,5 @@
-use Rattle.semijoin.specs.Local.{opening_mark}
-use Prim.Native.Nat.{◌-◌}
-use lib.ListN.{take}
-use Rattle.semijoin.proofs.LocalCodeLaws.{Opening, opening_start, opening_more, opening_done}
+use Rattle.semijoin.proofs.LocalCodeLaws.{opening_more, opening_done}
 use borrow.Author.Rules.{rules}
-use native.Mathlib.Omega.{arith}
 use Rattle.semijoin.proofs.local.open_rows.Goals as goal
 
 pub loop-row-preserved : goal.loop-row-preserved

@@ -1,7 +1,5 @@
 use Rattle.ends.proofs.EndLaws.{usable_known}
 use Rattle.station.proofs.RowMessageCodeLaws.{make_rows_refused, make_rows_with}
-use native.Mathlib.Omega.{arith}
-use borrow.Author.Rules.{rules}
 use Rattle.station.proofs.making.make_rows.Goals as goal
 
 pub rows_with-requires : goal.rows_with-requires

@@ -1,6 +1,5 @@
 use Rattle.ends.proofs.EndLaws.{usable_known}
 use Rattle.station.proofs.MakingCodeLaws.{make_refused, make_with}
-use borrow.Author.Rules.{rules}
 use Rattle.station.proofs.making.make_values.Goals as goal
 
 pub values_with-requires : goal.values_with-requires

@@ -1,9 +1,5 @@
-use Prim.Native.Nat.{◌-◌}
-use mathlib.Core.Bool.{false}
-use Rattle.ground.proofs.NumberingLaws.{Numbering, numbering_start, numbering_more, numbering_done}
-use Rattle.contents.specs.Sites.{is_at}
+use Rattle.ground.proofs.NumberingLaws.{numbering_start, numbering_more, numbering_done}
 use borrow.Author.Rules.{rules}
-use native.Mathlib.Omega.{arith}
 use Rattle.station.proofs.opening.here_at.Goals as goal
 
 pub loop-relation-init : goal.loop-relation-init

@@ -1,9 +1,7 @@
 use Prim.Native.Nat.{◌-◌}
 use mathlib.Core.Bool.{false}
-use Rattle.ground.proofs.NumberingLaws.{Numbering, numbering_start, numbering_more, numbering_done}
+use Rattle.ground.proofs.NumberingLaws.{Numbering}
 use Rattle.contents.specs.Sites.{is_at}
-use borrow.Author.Rules.{rules}
-use native.Mathlib.Omega.{arith}
 use Rattle.station.proofs.opening.here_at.Given as goal
 
 abbrev pub invariant-loop-relation : goal.invariant-loop-relation

@@ -1,10 +1,4 @@
-use Rattle.ground.proofs.PuttingLaws.{copying_length}
-use borrow.Author.Rules.{rules}
-use Prim.Native.Nat.{◌-◌}
-use lib.ListN.{length}
-use Rattle.ground.proofs.PuttingLaws.{Copying, copying_start, copying_more}
-use Rattle.station.proofs.TakingCodeLaws.{append_place, append_done}
-use native.Mathlib.Omega.{arith}
+use Rattle.ground.proofs.PuttingLaws.{copying_more}
 use Rattle.station.proofs.receiving.append.Goals as goal
 
 pub loop-i-preserved : goal.loop-i-preserved

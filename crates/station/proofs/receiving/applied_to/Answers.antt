@@ -1,5 +1,4 @@
 use Rattle.station.proofs.TakingCodeLaws.{applied_is}
-use borrow.Author.Rules.{rules}
 use Rattle.station.proofs.receiving.applied_to.Goals as goal
 
 pub returns : goal.returns

@@ -1,7 +1,5 @@
 use Rattle.ends.proofs.EndLaws.{usable_known}
 use Rattle.station.proofs.ReceivingCodeLaws.{receive_refused, receive_with_lem}
-use native.Mathlib.Omega.{arith}
-use borrow.Author.Rules.{rules}
 use Rattle.station.proofs.receiving.receive.Goals as goal
 
 pub receive_with-requires : goal.receive_with-requires

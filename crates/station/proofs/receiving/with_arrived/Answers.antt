@@ -1,5 +1,4 @@
 use Rattle.station.proofs.TakingCodeLaws.{arrived_is}
-use borrow.Author.Rules.{rules}
 use Rattle.station.proofs.receiving.with_arrived.Goals as goal
 
 pub returns : goal.returns

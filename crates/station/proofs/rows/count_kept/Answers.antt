@@ -1,7 +1,4 @@
-use Prim.Native.Nat.{◌-◌}
-use mathlib.Core.Logic.{⊎_elim}
-use Rattle.tables.specs.Rows.{kept_over}
-use Rattle.ground.proofs.CountingLaws.{Counting, counting_start, counting_most, counting_done}
+use Rattle.ground.proofs.CountingLaws.{counting_start, counting_most}
 use Rattle.station.proofs.RowCodeLaws.{kept_counted, kept_passed}
 use borrow.Author.Rules.{rules}
 use native.Mathlib.Omega.{arith}
@@ -15,4 +12,8 @@ pub overflow_add-n : goal.overflow_add-n
 overflow_add-n c = omega (arith, counting_most _ _ _ _ c.loop-row.invariant)
 
 pub loop-row-preserved : goal.loop-row-preserved
-loop-row-preserved c = elim c.if-is_kept.branch [ then-is_kept w ↦ search (kept_counted, rules) | else-is_kept w ↦ search (kept_passed, rules) ]
+loop-row-preserved c =
+    elim c.if-is_kept.branch [
+        then-is_kept w ↦ search (kept_counted, rules)
+        | else-is_kept w ↦ search (kept_passed, rules)
+    ]

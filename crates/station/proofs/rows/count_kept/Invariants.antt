@@ -1,10 +1,6 @@
 use Prim.Native.Nat.{◌-◌}
-use mathlib.Core.Logic.{⊎_elim}
 use Rattle.tables.specs.Rows.{kept_over}
-use Rattle.ground.proofs.CountingLaws.{Counting, counting_start, counting_most, counting_done}
-use Rattle.station.proofs.RowCodeLaws.{kept_counted, kept_passed}
-use borrow.Author.Rules.{rules}
-use native.Mathlib.Omega.{arith}
+use Rattle.ground.proofs.CountingLaws.{Counting}
 use Rattle.station.proofs.rows.count_kept.Given as goal
 
 abbrev pub invariant-loop-row : goal.invariant-loop-row

@@ -1,6 +1,4 @@
-use Prim.Native.Nat.{◌-◌}
-use mathlib.Core.Logic.{⊎_elim}
-use Rattle.station.proofs.RowCodeLaws.{Shipping, shipping_start, shipping_room, shipping_fits, shipping_long, shipping_yes, shipping_no, shipping_done}
+use Rattle.station.proofs.RowCodeLaws.{shipping_start, shipping_room, shipping_fits, shipping_yes, shipping_no}
 use borrow.Author.Rules.{rules}
 use native.Mathlib.Omega.{arith}
 use Rattle.station.proofs.rows.put_rows.Goals as goal
@@ -13,7 +11,14 @@ pub put_row-requires : goal.put_row-requires
 put_row-requires c = search (shipping_room, rules)
 
 pub overflow_add-at : goal.overflow_add-at
-overflow_add-at c = omega (arith, shipping_fits _ _ _ _ _ _ _ _ _ c.loop-row.invariant c.loop-row-test.true _ c.is_kept-kept.ensures c.if-kept.true c.requires _ c.in_use-width.ensures (omega arith))
+overflow_add-at c =
+    omega (arith, shipping_fits _ _ _ _ _ _ _ _ _ c.loop-row.invariant c.loop-row-test.true _ c.is_kept-kept.ensures
+    c.if-kept.true c.requires _ c.in_use-width.ensures (omega arith))
 
 pub loop-row-preserved : goal.loop-row-preserved
-loop-row-preserved c = elim c.if-kept.branch [ then-kept w ↦ shipping_yes _ _ _ _ _ _ _ _ _ c.loop-row.invariant c.loop-row-test.true _ c.is_kept-kept.ensures w.if-kept.true _ _ w.message-is w.put_row.ensures _ _ c.in_use-width.ensures (omega arith) w.at-is | else-kept w ↦ search (shipping_no, rules) ]
+loop-row-preserved c =
+    elim c.if-kept.branch [
+        then-kept w ↦ shipping_yes _ _ _ _ _ _ _ _ _ c.loop-row.invariant c.loop-row-test.true _ c.is_kept-kept.ensures
+            w.if-kept.true _ _ w.message-is w.put_row.ensures _ _ c.in_use-width.ensures (omega arith) w.at-is
+        | else-kept w ↦ search (shipping_no, rules)
+    ]

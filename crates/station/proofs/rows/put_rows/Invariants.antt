@@ -1,8 +1,5 @@
 use Prim.Native.Nat.{◌-◌}
-use mathlib.Core.Logic.{⊎_elim}
-use Rattle.station.proofs.RowCodeLaws.{Shipping, shipping_start, shipping_room, shipping_fits, shipping_long, shipping_yes, shipping_no, shipping_done}
-use borrow.Author.Rules.{rules}
-use native.Mathlib.Omega.{arith}
+use Rattle.station.proofs.RowCodeLaws.{Shipping}
 use Rattle.station.proofs.rows.put_rows.Given as goal
 
 abbrev pub invariant-loop-row : goal.invariant-loop-row

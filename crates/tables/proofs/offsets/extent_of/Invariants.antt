@@ -1,7 +1,5 @@
-use Rattle.tables.proofs.OffsetCodeLaws.{words_fit_in, Adding, adding_start, adding_more, extent_is}
+use Rattle.tables.proofs.OffsetCodeLaws.{Adding}
 use Prim.Native.Nat.{◌≤◌, ◌-◌}
-use borrow.Author.Rules.{rules}
-use native.Mathlib.Omega.{arith}
 use Rattle.tables.proofs.offsets.extent_of.Given as goal
 
 abbrev pub invariant-loop-i : goal.invariant-loop-i

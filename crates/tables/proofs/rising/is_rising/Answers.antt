@@ -1,8 +1,5 @@
 use borrow.Author.Rules.{rules}
-use Rattle.tables.proofs.RisingCodeLaws.{StillRising, rising_start, rising_not, rising_more, rising_done}
-use lib.ListN.{length}
-use Prim.Native.Nat.{◌-◌}
-use native.Mathlib.Omega.{arith}
+use Rattle.tables.proofs.RisingCodeLaws.{rising_start}
 use Rattle.tables.proofs.rising.is_rising.Goals as goal
 
 pub loop-i-init : goal.loop-i-init

@@ -2,7 +2,6 @@ use Rattle.tables.specs.Rows.{is_kept}
 use Prim.Native.Nat.{ℕ}
 use mathlib.Core.Path.{ap}
 use Rattle.tables.proofs.RowLaws.{mark_over}
-use borrow.Author.Rules.{rules}
 use Rattle.tables.proofs.rows.kept_at.Goals as goal
 
 pub returns : goal.returns

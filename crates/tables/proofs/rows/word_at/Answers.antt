@@ -1,6 +1,5 @@
 use Rattle.tables.proofs.RowLaws.{word_over_lem}
-use Rattle.tables.proofs.RowCodeLaws.{word_outside, word_no_row, word_no_word, word_no_first, word_no_later, word_place}
-use native.Mathlib.Omega.{arith}
+use Rattle.tables.proofs.RowCodeLaws.{word_outside, word_no_row, word_no_word, word_no_first, word_no_later}
 use borrow.Author.Rules.{rules}
 use Rattle.tables.proofs.rows.word_at.Goals as goal
 

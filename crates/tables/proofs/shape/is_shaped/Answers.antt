@@ -1,7 +1,5 @@
-use Rattle.tables.proofs.OffsetCodeLaws.{Few, few_start, few_more, shape_short, shape_long, shape_other, shape_over, shape_all}
-use Prim.Native.Nat.{◌-◌}
+use Rattle.tables.proofs.OffsetCodeLaws.{shape_short, shape_long, shape_other, shape_over, shape_all}
 use borrow.Author.Rules.{rules}
-use native.Mathlib.Omega.{arith}
 use Rattle.tables.proofs.shape.is_shaped.Goals as goal
 
 pub returns-then-tables-n : goal.returns-then-tables-n

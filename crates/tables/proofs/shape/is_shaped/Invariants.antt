@@ -1,7 +1,5 @@
-use Rattle.tables.proofs.OffsetCodeLaws.{Few, few_start, few_more, shape_short, shape_long, shape_other, shape_over, shape_all}
+use Rattle.tables.proofs.OffsetCodeLaws.{Few}
 use Prim.Native.Nat.{◌-◌}
-use borrow.Author.Rules.{rules}
-use native.Mathlib.Omega.{arith}
 use Rattle.tables.proofs.shape.is_shaped.Given as goal
 
 abbrev pub invariant-loop-i : goal.invariant-loop-i
