@@ -94,7 +94,7 @@ fn seen(search: Search, step: Step, at: usize) -> Search
     after
 }
 
-// The steps of the accepted program, lent as a slice, are looked at in program order. The proof is by hand.
+// The steps of the accepted program, lent as a slice, are looked at in program order.
 fn sought(steps: &[Step], search: Search) -> Search
     ensures { result ≡ sought_from steps.now 0 search }
 {
@@ -107,7 +107,7 @@ fn sought(steps: &[Step], search: Search) -> Search
     reached
 }
 
-// The program lends its steps for one search. The proof is by hand; whoever calls this is covered.
+// The program lends its steps for one search.
 fn sought_in(program: Program, search: Search) -> Search
     ensures { (result ≡ sought_from program.steps 0 search) × (length program.steps ≡ 156) }
 {

@@ -1,5 +1,5 @@
-// A paper's bytes and a position in them, and the thin functions over such a reader. What they do is done on the bytes and the
-// position: those functions are covered, and these are proved by hand.
+// A paper's bytes and a position in them, and the thin functions over such a reader. What they do is done by functions on the bytes
+// and the position.
 ghost use Rattle.std.specs.Prelude.{◌≡◌, ◌∷◌, [], ◌+◌, ◌≤◌, ◌<◌, length};
 ghost use Rattle.ground.specs.Outcome.{verdict_of};
 ghost use Rattle.fields.specs.Numbers.{bytes_wide, number_at, marked, mark_at, shown_number};
