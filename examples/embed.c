@@ -3,7 +3,7 @@
  * COUPON (number, date) is at site 1, WEIGH (number, date, loss) at site 2, joined on their numbers; the program reduces each by the
  * other and brings the rows to site 1. Messages go through `carry`, where a radio would be; each value message is sent twice.
  *
- * Build: rt staticlib boundary && cc -std=c99 -Iinclude examples/embed.c target/staticlib/libboundary.a -o embed
+ * Build: bin/staticlib && cc -std=c99 -Iinclude examples/embed.c target/staticlib/libboundary.a -o embed
  */
 #include <stdio.h>
 #include <stdlib.h>

@@ -1,5 +1,5 @@
 /* Legestran for C: eleven calls on slices and numbers. The library keeps nothing between calls, allocates nothing and never writes
- * outside what is lent to it. It is for x86-64 Linux: `rt staticlib boundary` writes target/staticlib/libboundary.a.
+ * outside what is lent to it. It is for x86-64 Linux: `bin/staticlib` writes target/staticlib/libboundary.a.
  *
  * A slice is a pointer and a number of elements; a lent one that is empty still needs a pointer that is not null. No slice that is
  * lent for writing may overlap another one of the same call.
