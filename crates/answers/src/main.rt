@@ -10,6 +10,7 @@ use entries::places::Place;
 use fields::puts::Written;
 use papers::programs::Program;
 use paths::steps::Step;
+use std::io;
 
 const RUN: u32 = 5;
 
@@ -25,38 +26,26 @@ const COUPONS: [u32; 8] = [3, 0, 11, 20, 12, 20, 13, 21];
 
 const WEIGHTS: [u32; 14] = [0, 4, 11, 20, 5, 12, 20, 7, 12, 20, 7, 14, 22, 3];
 
-fn print_word(value: u32) {
-    io::print_decimal(1, value as u64);
+fn print_word(rt: &impl Print, value: u32) -> io::Result<()> {
+    rt.print(value)
 }
 
-fn print_words(what: &[u8], words: &[u32]) {
-    io::write_all(1, what);
-    let mut i: usize = 0;
-    while i < words.len() {
-        io::write_all(1, b" ");
-        print_word(words[i]);
-        i += 1;
+fn print_words(rt: &impl Print, what: &[u8], words: &[u32]) -> io::Result<()> {
+    rt.write_all(what)?;
+    for word in words {
+        rt.write_all(b" ")?;
+        print_word(rt, *word)?;
     }
-    io::write_all(1, b"\n");
+    rt.write_all(b"\n")
 }
 
-fn print_answered(what: &[u8], answered: Written, out: &[u32]) {
-    io::write_all(1, what);
+fn print_answered(rt: &impl Print, what: &[u8], answered: Written, out: &[u32]) -> io::Result<()> {
+    rt.write_all(what)?;
     match answered {
-        Written::Length(n) => {
-            io::write_all(1, b": ");
-            io::print_decimal(1, n as u64);
-            io::write_all(1, b" words\n");
-        }
-        Written::Refused { number, position } => {
-            io::write_all(1, b": refused ");
-            io::print_decimal(1, number as u64);
-            io::write_all(1, b" ");
-            io::print_decimal(1, position as u64);
-            io::write_all(1, b"\n");
-        }
+        Written::Length(n) => println!(rt; ": {n} words")?,
+        Written::Refused { number, position } => println!(rt; ": refused {number} {position}")?,
     }
-    print_words(b"  out", out);
+    print_words(rt, b"  out", out)
 }
 
 fn place(relation: u8, column: u8) -> Place {
@@ -93,19 +82,19 @@ fn program_on(column: u8) -> Program {
 
 // ---- on tables
 
-fn on_tables(what: &[u8], column: u8) {
+fn on_tables(rt: &impl Print, what: &[u8], column: u8) -> io::Result<()> {
     let whole = WHOLE;
     let mut out = [9u32; 14];
     let answered = answerer::answer::answer(envelope_on(column), &whole, &mut out);
-    print_answered(what, answered, &out);
+    print_answered(rt, what, answered, &out)
 }
 
 // ---- at an end
 
-fn asked(what: &[u8], end: End, store: &[u32]) {
+fn asked(rt: &impl Print, what: &[u8], end: End, store: &[u32]) -> io::Result<()> {
     let mut out = [9u32; 14];
     let answered = answerer::assembly::answer_at_end(end, store, &mut out);
-    print_answered(what, answered, &out);
+    print_answered(rt, what, answered, &out)
 }
 
 // A message that was made, at the end that answers.
@@ -167,13 +156,13 @@ fn with_weights(column: u8, end: End, marks: &mut [u8], store: &mut [u32]) -> En
     delivered(end, marks, store, rows, &message)
 }
 
-fn gathered(column: u8, store: &mut [u32]) -> End {
+fn gathered(rt: &impl Print, column: u8, store: &mut [u32]) -> io::Result<End> {
     let mut marks = [9u8; 3];
     let start = reduced(column, &mut marks, store);
-    asked(b"before any rows", start, store);
+    asked(rt, b"before any rows", start, store)?;
     let first = with_coupons(start, &mut marks, store);
-    asked(b"without the rows of WEIGH", first, store);
-    with_weights(column, first, &mut marks, store)
+    asked(rt, b"without the rows of WEIGH", first, store)?;
+    Ok(with_weights(column, first, &mut marks, store))
 }
 
 fn with_used(end: End, used: usize) -> End {
@@ -182,59 +171,62 @@ fn with_used(end: End, used: usize) -> End {
     other
 }
 
-fn refused_by_store(end: End, store: &[u32]) {
+fn refused_by_store(rt: &impl Print, end: End, store: &[u32]) -> io::Result<()> {
     asked(
+        rt,
         b"with words in use past the store",
         with_used(end, 21),
         store,
-    );
-    asked(b"with a message cut short", with_used(end, 15), store);
-    asked(b"with a message missing", with_used(end, 5), store);
+    )?;
+    asked(rt, b"with a message cut short", with_used(end, 15), store)?;
+    asked(rt, b"with a message missing", with_used(end, 5), store)?;
     let mut other = end;
     other.run = 6;
-    asked(b"with messages of another run", other, store);
+    asked(rt, b"with messages of another run", other, store)?;
     let mut unmarked = end;
     unmarked.arrived = [false; 8];
-    asked(b"with no relation marked as arrived", unmarked, store);
+    asked(rt, b"with no relation marked as arrived", unmarked, store)?;
     asked(
+        rt,
         b"with nothing arrived and nothing in use",
         with_used(unmarked, 0),
         store,
-    );
+    )
 }
 
-fn refused(end: End, store: &[u32]) {
+fn refused(rt: &impl Print, end: End, store: &[u32]) -> io::Result<()> {
     let mut version = end;
     let mut envelope = end.envelope;
     envelope.version = 2;
     version.envelope = envelope;
-    asked(b"by another version", version, store);
+    asked(rt, b"by another version", version, store)?;
     let mut many = end;
     many.applied = [2u32; 8];
-    asked(b"with more applied than there are", many, store);
+    asked(rt, b"with more applied than there are", many, store)?;
     let mut away = with_used(end, 21);
     away.site = 2;
     asked(
+        rt,
         b"at another site, with words in use past the store",
         away,
         store,
-    );
-    refused_by_store(end, store);
+    )?;
+    refused_by_store(rt, end, store)?;
     let mut out = [9u32; 5];
     let answered = answerer::assembly::answer_at_end(end, store, &mut out);
-    print_answered(b"with too little room", answered, &out);
+    print_answered(rt, b"with too little room", answered, &out)
 }
 
-fn main() {
-    on_tables(b"on number, on tables", NUMBER);
-    on_tables(b"on date, on tables", DATE);
+fn main(rt: HostRuntime) -> io::Result<()> {
+    on_tables(&rt, b"on number, on tables", NUMBER)?;
+    on_tables(&rt, b"on date, on tables", DATE)?;
     let mut store = [9u32; 20];
-    let end = gathered(NUMBER, &mut store);
-    print_words(b"store", &store);
-    asked(b"on number, at an end", end, &store);
+    let end = gathered(&rt, NUMBER, &mut store)?;
+    print_words(&rt, b"store", &store)?;
+    asked(&rt, b"on number, at an end", end, &store)?;
     let mut other = [9u32; 20];
-    let last = gathered(DATE, &mut other);
-    print_words(b"store", &other);
-    asked(b"on date, at an end", last, &other);
-    refused(end, &store);
+    let last = gathered(&rt, DATE, &mut other)?;
+    print_words(&rt, b"store", &other)?;
+    asked(&rt, b"on date, at an end", last, &other)?;
+    refused(&rt, end, &store)
 }

@@ -1,23 +1,31 @@
 // The calls on ends, behind the papers that the script has first: the other arguments read in order, the call, its outcome. Each
 // answers false where the script is damaged; then nothing was written.
 use crate::{input, output};
+use std::io;
+use std::io::{Read, Write};
 
-pub(crate) fn open(envelope: &[u8], program: &[u8]) -> bool {
+pub(crate) fn open<R: Read, W: Write>(
+    script: &mut R,
+    outcomes: &mut W,
+    envelope: &[u8],
+    program: &[u8],
+) -> io::Result<bool> {
     let mut tables = [0u32; input::MOST];
     let mut marks = [0u8; input::MOST];
     let mut state = [0u32; input::MOST];
-    let site = input::next_number(true);
-    let run = input::next_number(site.sound);
-    let t = input::next_words(run.sound, &mut tables);
-    let m = input::next_bytes(t.sound, &mut marks);
-    let s = input::next_words(m.sound, &mut state);
+    let site = input::next_number(script, true)?;
+    let run = input::next_number(script, site.sound)?;
+    let t = input::next_words(script, run.sound, &mut tables)?;
+    let m = input::next_bytes(script, t.sound, &mut marks)?;
+    let s = input::next_words(script, m.sound, &mut state)?;
     if !s.sound {
-        return false;
+        return Ok(false);
     }
     let words = t.count;
     let rows = m.count;
     let length = s.count;
     put_opened(
+        outcomes,
         envelope,
         program,
         site.value,
@@ -25,11 +33,12 @@ pub(crate) fn open(envelope: &[u8], program: &[u8]) -> bool {
         &tables[..words],
         &mut marks[..rows],
         &mut state[..length],
-    );
-    true
+    )?;
+    Ok(true)
 }
 
-fn put_opened(
+fn put_opened<W: Write>(
+    outcomes: &mut W,
     envelope: &[u8],
     program: &[u8],
     site: u32,
@@ -37,30 +46,38 @@ fn put_opened(
     tables: &[u32],
     marks: &mut [u8],
     state: &mut [u32],
-) {
+) -> io::Result<()> {
     let answer = boundary::stations::legestran_open(
         envelope, program, site, run, tables, marks, state,
     );
-    output::put_answer(answer);
-    output::put_bytes(marks);
-    output::put_words(state);
+    output::put_answer(outcomes, answer)?;
+    output::put_bytes(outcomes, marks)?;
+    output::put_words(outcomes, state)
 }
 
 // Calls 7, 8 and 9 go on with the state, the tables and the marks.
-pub(crate) fn next_end(call: u32, envelope: &[u8], program: &[u8]) -> bool {
+pub(crate) fn next_end<R: Read, W: Write>(
+    script: &mut R,
+    outcomes: &mut W,
+    call: u32,
+    envelope: &[u8],
+    program: &[u8],
+) -> io::Result<bool> {
     let mut state = [0u32; input::MOST];
     let mut tables = [0u32; input::MOST];
     let mut marks = [0u8; input::MOST];
-    let s = input::next_words(true, &mut state);
-    let t = input::next_words(s.sound, &mut tables);
-    let m = input::next_bytes(t.sound, &mut marks);
+    let s = input::next_words(script, true, &mut state)?;
+    let t = input::next_words(script, s.sound, &mut tables)?;
+    let m = input::next_bytes(script, t.sound, &mut marks)?;
     if !m.sound {
-        return false;
+        return Ok(false);
     }
     let length = s.count;
     let words = t.count;
     let rows = m.count;
     with_end(
+        script,
+        outcomes,
         call,
         envelope,
         program,
@@ -70,39 +87,48 @@ pub(crate) fn next_end(call: u32, envelope: &[u8], program: &[u8]) -> bool {
     )
 }
 
-fn with_end(
+fn with_end<R: Read, W: Write>(
+    script: &mut R,
+    outcomes: &mut W,
     call: u32,
     envelope: &[u8],
     program: &[u8],
     state: &mut [u32],
     tables: &[u32],
     marks: &mut [u8],
-) -> bool {
+) -> io::Result<bool> {
     match call {
-        7 => make(false, envelope, program, state, tables, marks),
-        8 => make(true, envelope, program, state, tables, marks),
-        9 => receive(envelope, program, state, tables, marks),
-        _ => false,
+        7 => make(
+            script, outcomes, false, envelope, program, state, tables, marks,
+        ),
+        8 => make(
+            script, outcomes, true, envelope, program, state, tables, marks,
+        ),
+        9 => receive(script, outcomes, envelope, program, state, tables, marks),
+        _ => Ok(false),
     }
 }
 
 // A row message or a value message: the number is that of the relation, or of the step.
-fn make(
+fn make<R: Read, W: Write>(
+    script: &mut R,
+    outcomes: &mut W,
     rows: bool,
     envelope: &[u8],
     program: &[u8],
     state: &[u32],
     tables: &[u32],
     marks: &[u8],
-) -> bool {
+) -> io::Result<bool> {
     let mut message = [0u32; input::MOST];
-    let number = input::next_number(true);
-    let m = input::next_words(number.sound, &mut message);
+    let number = input::next_number(script, true)?;
+    let m = input::next_words(script, number.sound, &mut message)?;
     if !m.sound {
-        return false;
+        return Ok(false);
     }
     let room = m.count;
     put_made(
+        outcomes,
         rows,
         envelope,
         program,
@@ -111,11 +137,12 @@ fn make(
         marks,
         number.value,
         &mut message[..room],
-    );
-    true
+    )?;
+    Ok(true)
 }
 
-fn put_made(
+fn put_made<W: Write>(
+    outcomes: &mut W,
     rows: bool,
     envelope: &[u8],
     program: &[u8],
@@ -124,12 +151,12 @@ fn put_made(
     marks: &[u8],
     number: u32,
     message: &mut [u32],
-) {
+) -> io::Result<()> {
     let answer = make_message(
         rows, envelope, program, state, tables, marks, number, message,
     );
-    output::put_answer(answer);
-    output::put_words(message);
+    output::put_answer(outcomes, answer)?;
+    output::put_words(outcomes, message)
 }
 
 fn make_message(
@@ -152,23 +179,26 @@ fn make_message(
     )
 }
 
-fn receive(
+fn receive<R: Read, W: Write>(
+    script: &mut R,
+    outcomes: &mut W,
     envelope: &[u8],
     program: &[u8],
     state: &mut [u32],
     tables: &[u32],
     marks: &mut [u8],
-) -> bool {
+) -> io::Result<bool> {
     let mut store = [0u32; input::MOST];
     let mut message = [0u32; input::MOST];
-    let h = input::next_words(true, &mut store);
-    let m = input::next_words(h.sound, &mut message);
+    let h = input::next_words(script, true, &mut store)?;
+    let m = input::next_words(script, h.sound, &mut message)?;
     if !m.sound {
-        return false;
+        return Ok(false);
     }
     let held = h.count;
     let sent = m.count;
     put_received(
+        outcomes,
         envelope,
         program,
         state,
@@ -176,11 +206,12 @@ fn receive(
         marks,
         &mut store[..held],
         &message[..sent],
-    );
-    true
+    )?;
+    Ok(true)
 }
 
-fn put_received(
+fn put_received<W: Write>(
+    outcomes: &mut W,
     envelope: &[u8],
     program: &[u8],
     state: &mut [u32],
@@ -188,47 +219,54 @@ fn put_received(
     marks: &mut [u8],
     store: &mut [u32],
     message: &[u32],
-) {
+) -> io::Result<()> {
     let answer = boundary::stations::legestran_receive(
         envelope, program, state, tables, marks, store, message,
     );
-    output::put_answer(answer);
-    output::put_words(state);
-    output::put_bytes(marks);
-    output::put_words(store);
+    output::put_answer(outcomes, answer)?;
+    output::put_words(outcomes, state)?;
+    output::put_bytes(outcomes, marks)?;
+    output::put_words(outcomes, store)
 }
 
-pub(crate) fn answer_at_end(envelope: &[u8], program: &[u8]) -> bool {
+pub(crate) fn answer_at_end<R: Read, W: Write>(
+    script: &mut R,
+    outcomes: &mut W,
+    envelope: &[u8],
+    program: &[u8],
+) -> io::Result<bool> {
     let mut state = [0u32; input::MOST];
     let mut store = [0u32; input::MOST];
     let mut out = [0u32; input::MOST];
-    let s = input::next_words(true, &mut state);
-    let h = input::next_words(s.sound, &mut store);
-    let o = input::next_words(h.sound, &mut out);
+    let s = input::next_words(script, true, &mut state)?;
+    let h = input::next_words(script, s.sound, &mut store)?;
+    let o = input::next_words(script, h.sound, &mut out)?;
     if !o.sound {
-        return false;
+        return Ok(false);
     }
     let length = s.count;
     let held = h.count;
     let room = o.count;
     put_answered_at_end(
+        outcomes,
         envelope,
         program,
         &state[..length],
         &store[..held],
         &mut out[..room],
-    );
-    true
+    )?;
+    Ok(true)
 }
 
-fn put_answered_at_end(
+fn put_answered_at_end<W: Write>(
+    outcomes: &mut W,
     envelope: &[u8],
     program: &[u8],
     state: &[u32],
     store: &[u32],
     out: &mut [u32],
-) {
+) -> io::Result<()> {
     let answer = boundary::stations::legestran_answer_at_end(envelope, program, state, store, out);
-    output::put_answer(answer);
-    output::put_words(out);
+    output::put_answer(outcomes, answer)?;
+    output::put_words(outcomes, out)
 }

@@ -9,6 +9,7 @@ use fields::puts::Written;
 use ground::Verdict;
 use papers::programs::Program;
 use paths::steps::Step;
+use std::io;
 
 // Domains of 10 and 20; relation 0 at site 1 with 5 rows and a column of each domain, relation 1 at site 2 with 5 rows
 // and a column of the first; a join of the two; a target.
@@ -17,81 +18,77 @@ const SMALL: [u8; 54] = [
     0, 0, 0, 2, 1, 5, 0, 0, 0, 0, 4, 2, 0, 0, 0, 1, 2, 0, 0, 1, 0, 1, 0, 1,
 ];
 
-fn print_verdict(what: &[u8], verdict: Verdict) {
-    io::write_all(1, what);
+fn print_verdict(rt: &impl Print, what: &[u8], verdict: Verdict) -> io::Result<()> {
+    rt.write_all(what)?;
     match verdict {
-        Verdict::Taken => {
-            io::write_all(1, b": taken\n");
-        }
-        Verdict::Refused { number, position } => {
-            io::write_all(1, b": refused ");
-            io::print_decimal(1, number as u64);
-            io::write_all(1, b" ");
-            io::print_decimal(1, position as u64);
-            io::write_all(1, b"\n");
-        }
+        Verdict::Taken => println!(rt; ": taken"),
+        Verdict::Refused { number, position } => println!(rt; ": refused {number} {position}"),
     }
 }
 
 // The first n bytes of a paper.
-fn cut(what: &[u8], paper: &[u8], n: usize) {
+fn cut(rt: &impl Print, what: &[u8], paper: &[u8], n: usize) -> io::Result<()> {
     if n <= paper.len() {
         let read = envelopes::reading::read_envelope(&paper[..n]);
         let verdict = read.verdict;
-        print_verdict(what, verdict);
+        print_verdict(rt, what, verdict)?;
     }
+    Ok(())
 }
 
 // The small envelope with one byte changed.
-fn changed(what: &[u8], at: usize, value: u8) {
+fn changed(rt: &impl Print, what: &[u8], at: usize, value: u8) -> io::Result<()> {
     if at < 54 {
         let mut paper = SMALL;
         paper[at] = value;
         let read = envelopes::reading::read_envelope(&paper);
         let verdict = read.verdict;
-        print_verdict(what, verdict);
+        print_verdict(rt, what, verdict)?;
     }
+    Ok(())
 }
 
-fn heads() {
+fn heads(rt: &impl Print) -> io::Result<()> {
     let paper = SMALL;
-    cut(b"the small envelope", &paper, 54);
-    cut(b"the empty file", &paper, 0);
-    cut(b"cut inside the mark", &paper, 2);
-    cut(b"cut inside a size", &paper, 8);
-    changed(b"another mark", 2, 79);
-    changed(b"another version", 3, 2);
-    changed(b"version 0x0101", 4, 1);
+    cut(rt, b"the small envelope", &paper, 54)?;
+    cut(rt, b"the empty file", &paper, 0)?;
+    cut(rt, b"cut inside the mark", &paper, 2)?;
+    cut(rt, b"cut inside a size", &paper, 8)?;
+    changed(rt, b"another mark", 2, 79)?;
+    changed(rt, b"another version", 3, 2)?;
+    changed(rt, b"version 0x0101", 4, 1)
 }
 
-fn limits() {
-    changed(b"no domain", 5, 0);
-    changed(b"seventeen domains", 5, 17);
-    changed(b"site 7", 15, 7);
-    changed(b"site 8", 15, 8);
-    changed(b"a distinct count above the rows", 23, 6);
-    changed(b"a distinct count of 0 with rows", 23, 0);
-    changed(b"a domain that is not there", 27, 2);
-    changed(b"thirteen clauses", 45, 13);
-    changed(b"a clause of a third kind", 46, 3);
-    changed(b"a column that is not there", 48, 2);
-    changed(b"no target", 51, 0);
+fn limits(rt: &impl Print) -> io::Result<()> {
+    changed(rt, b"no domain", 5, 0)?;
+    changed(rt, b"seventeen domains", 5, 17)?;
+    changed(rt, b"site 7", 15, 7)?;
+    changed(rt, b"site 8", 15, 8)?;
+    changed(rt, b"a distinct count above the rows", 23, 6)?;
+    changed(rt, b"a distinct count of 0 with rows", 23, 0)?;
+    changed(rt, b"a domain that is not there", 27, 2)?;
+    changed(rt, b"thirteen clauses", 45, 13)?;
+    changed(rt, b"a clause of a third kind", 46, 3)?;
+    changed(rt, b"a column that is not there", 48, 2)?;
+    changed(rt, b"no target", 51, 0)
 }
 
-fn rules() {
-    changed(b"a join of two domains", 48, 1);
-    changed(b"a join of a column with itself", 49, 0);
+fn rules(rt: &impl Print) -> io::Result<()> {
+    changed(rt, b"a join of two domains", 48, 1)?;
+    changed(rt, b"a join of a column with itself", 49, 0)?;
     // The small envelope with a byte behind it; and with no clause, so that relation 1 has no kept column.
     cut(
+        rt,
         b"a byte left over",
         b"CPN\x01\x00\x02\x0a\x00\x00\x00\x14\x00\x00\x00\x02\x01\x02\x05\x00\x00\x00\x00\x01\x05\x00\x00\x00\x01\x02\x03\x00\x00\x00\x02\x01\x05\x00\x00\x00\x00\x04\x02\x00\x00\x00\x01\x02\x00\x00\x01\x00\x01\x00\x01\x00",
         55,
-    );
+    )?;
     cut(
+        rt,
         b"a relation with no kept column",
         b"CPN\x01\x00\x02\x0a\x00\x00\x00\x14\x00\x00\x00\x02\x01\x02\x05\x00\x00\x00\x00\x01\x05\x00\x00\x00\x01\x02\x03\x00\x00\x00\x02\x01\x05\x00\x00\x00\x00\x04\x02\x00\x00\x00\x00\x01\x00\x01",
         49,
-    );
+    )
 }
 
 fn small() -> Envelope {
@@ -101,7 +98,7 @@ fn small() -> Envelope {
 }
 
 // The small envelope as a struct, with its clause standing that often.
-fn clauses(what: &[u8], count: u8) {
+fn clauses(rt: &impl Print, what: &[u8], count: u8) -> io::Result<()> {
     let mut envelope = small();
     let array = envelope.clauses;
     let clause = array[0];
@@ -109,11 +106,11 @@ fn clauses(what: &[u8], count: u8) {
     envelope.clause_count = count;
     let read = envelopes::reading::check_envelope(envelope);
     let verdict = read.verdict;
-    print_verdict(what, verdict);
+    print_verdict(rt, what, verdict)
 }
 
 // A program of relation left reduced by relation right, column 0 each, that often.
-fn steps(what: &[u8], site: u8, count: u8, left: u8, right: u8) {
+fn steps(rt: &impl Print, what: &[u8], site: u8, count: u8, left: u8, right: u8) -> io::Result<()> {
     let step = Step {
         left: Place {
             relation: left,
@@ -131,78 +128,81 @@ fn steps(what: &[u8], site: u8, count: u8, left: u8, right: u8) {
     };
     let read = papers::programs::check_program(small(), program);
     let verdict = read.verdict;
-    print_verdict(what, verdict);
+    print_verdict(rt, what, verdict)
 }
 
 // A program as bytes.
-fn program(what: &[u8], paper: &[u8]) {
+fn program(rt: &impl Print, what: &[u8], paper: &[u8]) -> io::Result<()> {
     let read = papers::programs::read_program(small(), paper);
     let verdict = read.verdict;
-    print_verdict(what, verdict);
+    print_verdict(rt, what, verdict)
 }
 
-fn print_written(what: &[u8], written: Written) {
+fn print_written(rt: &impl Print, what: &[u8], written: Written) -> io::Result<()> {
     match written {
         Written::Length(n) => {
-            io::write_all(1, what);
-            io::write_all(1, b": wrote ");
-            io::print_decimal(1, n as u64);
-            io::write_all(1, b"\n");
+            rt.write_all(what)?;
+            println!(rt; ": wrote {n}")
         }
         Written::Refused { number, position } => {
-            print_verdict(what, Verdict::Refused { number, position });
+            print_verdict(rt, what, Verdict::Refused { number, position })
         }
     }
 }
 
-fn writers() {
+fn writers(rt: &impl Print) -> io::Result<()> {
     let mut room = [0u8; 54];
     let envelope = small();
     print_written(
+        rt,
         b"written to 54 bytes",
         envelopes::reading::write_envelope(envelope, &mut room),
-    );
+    )?;
     let mut short = [0u8; 53];
     print_written(
+        rt,
         b"written to 53 bytes",
         envelopes::reading::write_envelope(envelope, &mut short),
-    );
+    )
 }
 
-fn structs() {
-    clauses(b"twelve clauses", 12);
-    clauses(b"thirteen clauses in a struct", 13);
-    steps(b"156 steps", 1, 156, 0, 1);
-    steps(b"157 steps", 1, 157, 0, 1);
-    steps(b"a site that holds nothing", 3, 1, 0, 1);
-    steps(b"a relation that is not there", 1, 1, 0, 2);
-    steps(b"a step within a relation", 1, 1, 1, 1);
+fn structs(rt: &impl Print) -> io::Result<()> {
+    clauses(rt, b"twelve clauses", 12)?;
+    clauses(rt, b"thirteen clauses in a struct", 13)?;
+    steps(rt, b"156 steps", 1, 156, 0, 1)?;
+    steps(rt, b"157 steps", 1, 157, 0, 1)?;
+    steps(rt, b"a site that holds nothing", 3, 1, 0, 1)?;
+    steps(rt, b"a relation that is not there", 1, 1, 0, 2)?;
+    steps(rt, b"a step within a relation", 1, 1, 1, 1)
 }
 
-fn programs() {
+fn programs(rt: &impl Print) -> io::Result<()> {
     program(
+        rt,
         b"a program of one step",
         b"SJP\x01\x00\x01\x01\x00\x00\x01\x00",
-    );
-    program(b"an empty program paper", b"");
+    )?;
+    program(rt, b"an empty program paper", b"")?;
     program(
+        rt,
         b"a program cut inside its step",
         b"SJP\x01\x00\x01\x01\x00\x00\x01",
-    );
-    program(b"an envelope for a program", b"CPN\x01\x00");
-    program(b"a program of version 2", b"SJP\x02\x00\x01\x00");
-    program(b"bytes behind a program", b"SJP\x01\x00\x01\x00\x07");
+    )?;
+    program(rt, b"an envelope for a program", b"CPN\x01\x00")?;
+    program(rt, b"a program of version 2", b"SJP\x02\x00\x01\x00")?;
+    program(rt, b"bytes behind a program", b"SJP\x01\x00\x01\x00\x07")?;
     program(
+        rt,
         b"a step off every path",
         b"SJP\x01\x00\x01\x02\x00\x00\x01\x00\x00\x01\x01\x00",
-    );
+    )
 }
 
-fn main() {
-    heads();
-    limits();
-    rules();
-    structs();
-    writers();
-    programs();
+fn main(rt: HostRuntime) -> io::Result<()> {
+    heads(&rt)?;
+    limits(&rt)?;
+    rules(&rt)?;
+    structs(&rt)?;
+    writers(&rt)?;
+    programs(&rt)
 }

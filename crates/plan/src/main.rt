@@ -3,12 +3,33 @@
 // What is printed is made in listing, below; nothing lies above.
 #![tactic(auto)]
 
-fn main() {
+ghost use Rattle.std.specs.Prelude.{◌≤◌, length, IfOk};
+
+use std::io;
+use std::io::Read;
+
+// Reads until the buffer is full or the input ends: how many bytes stand at its front then.
+fn read_full<R: Read>(input: &mut R, buffer: &mut [u8]) -> io::Result<usize>
+    ensures { IfOk result (λ n. n ≤ length buffer.new) }
+{
+    let mut done: usize = 0;
+    while done < buffer.len() {
+        let n = input.read(&mut buffer[done..])?;
+        if n == 0 {
+            break;
+        }
+        done += n;
+    }
+    Ok(done)
+}
+
+fn main(rt: HostRuntime) -> io::Result<()> {
     let mut paper = [0u8; 1024];
-    let n = io::read_full(0, &mut paper);
+    let n = read_full(&mut rt.stdin(), &mut paper)?;
     let mut out = [0u8; 20480];
     let length = listing::listing::list_paper(&mut out, &paper[..n]);
-    if !io::write_all(1, &out[..length]) {
-        io::write_all(2, b"plan: the listing could not be written whole\n");
+    if rt.write_all(&out[..length]).is_err() {
+        eprintln!(rt; "plan: the listing could not be written whole")?;
     }
+    Ok(())
 }

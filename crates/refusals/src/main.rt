@@ -9,6 +9,7 @@ use entries::clauses::{Clause, ClauseKind};
 use entries::places::Place;
 use papers::programs::Program;
 use paths::steps::Step;
+use std::io;
 
 mod making;
 mod show;
@@ -49,70 +50,84 @@ fn three() -> Program {
 
 // ---- opening
 
-fn opening(what: &[u8], envelope: Envelope, program: Program, site: u32, tables: &[u32]) {
+fn opening(
+    rt: &impl Print,
+    what: &[u8],
+    envelope: Envelope,
+    program: Program,
+    site: u32,
+    tables: &[u32],
+) -> io::Result<()> {
     let mut marks = [9u8; 3];
     let opened = station::opening::open(envelope, program, site, RUN, tables, &mut marks);
     let verdict = opened.verdict;
-    show::print_verdict(what, verdict);
-    show::print_marks(&marks);
+    show::print_verdict(rt, what, verdict)?;
+    show::print_marks(rt, &marks)
 }
 
-fn joined(what: &[u8], left: Place, right: Place) {
+fn joined(rt: &impl Print, what: &[u8], left: Place, right: Place) -> io::Result<()> {
     let here = HERE;
     let mut envelope = small();
     let clause = Clause {
         kind: ClauseKind::Join { left, right },
     };
     envelope.clauses = [clause; 12];
-    opening(what, envelope, three(), 1, &here);
+    opening(rt, what, envelope, three(), 1, &here)
 }
 
-fn stepped(what: &[u8], site: u8, left: u8, right: u8) {
+fn stepped(rt: &impl Print, what: &[u8], site: u8, left: u8, right: u8) -> io::Result<()> {
     let here = HERE;
     let program = Program {
         site: site,
         count: 1,
         steps: [step(left, right); 156],
     };
-    opening(what, small(), program, 1, &here);
+    opening(rt, what, small(), program, 1, &here)
 }
 
-fn versioned(what: &[u8], version: u16, clauses: u8) {
+fn versioned(rt: &impl Print, what: &[u8], version: u16, clauses: u8) -> io::Result<()> {
     let here = HERE;
     let mut envelope = small();
     envelope.version = version;
     envelope.clause_count = clauses;
-    opening(what, envelope, three(), 1, &here);
+    opening(rt, what, envelope, three(), 1, &here)
 }
 
-fn openings() {
+fn openings(rt: &impl Print) -> io::Result<()> {
     let here = HERE;
-    opening(b"open", small(), three(), 1, &here);
-    opening(b"open where nothing is", small(), three(), 3, &here);
-    versioned(b"open by another version", 2, 1);
+    opening(rt, b"open", small(), three(), 1, &here)?;
+    opening(rt, b"open where nothing is", small(), three(), 3, &here)?;
+    versioned(rt, b"open by another version", 2, 1)?;
     joined(
+        rt,
         b"open by a column that is not there",
         place(0, 2),
         place(1, 0),
-    );
-    joined(b"open by a join of two domains", place(0, 1), place(1, 0));
+    )?;
     joined(
+        rt,
+        b"open by a join of two domains",
+        place(0, 1),
+        place(1, 0),
+    )?;
+    joined(
+        rt,
         b"open by a join of a column with itself",
         place(1, 0),
         place(1, 0),
-    );
-    stepped(b"open with a step that is not legal", 1, 1, 1);
-    stepped(b"open with assembly where nothing is", 3, 0, 1);
-    versioned(b"open with no kept column", 1, 0);
+    )?;
+    stepped(rt, b"open with a step that is not legal", 1, 1, 1)?;
+    stepped(rt, b"open with assembly where nothing is", 3, 0, 1)?;
+    versioned(rt, b"open with no kept column", 1, 0)?;
     let short = [2u32, 0, 1];
-    opening(b"open on tables cut short", small(), three(), 1, &short);
-    opening(b"open at site 8", small(), three(), 8, &here);
-    opening(b"open at site 257", small(), three(), 257, &here);
+    opening(rt, b"open on tables cut short", small(), three(), 1, &short)?;
+    opening(rt, b"open at site 8", small(), three(), 8, &here)?;
+    opening(rt, b"open at site 257", small(), three(), 257, &here)?;
     let mut one = [9u8; 1];
     let opened = station::opening::open(small(), three(), 1, RUN, &here, &mut one);
     let verdict = opened.verdict;
-    show::print_verdict(b"open with one mark", verdict);
-    show::print_marks(&one);
+    show::print_verdict(rt, b"open with one mark", verdict)?;
+    show::print_marks(rt, &one)
 }
 
 fn opened() -> End {
@@ -124,104 +139,135 @@ fn opened() -> End {
 
 // ---- receiving
 
-fn receiving_on(what: &[u8], end: End, tables: &[u32], marks: &mut [u8], message: &[u32]) -> End {
+fn receiving_on(
+    rt: &impl Print,
+    what: &[u8],
+    end: End,
+    tables: &[u32],
+    marks: &mut [u8],
+    message: &[u32],
+) -> io::Result<End> {
     let mut store = [9u32; 4];
     let received = station::receiving::receive(end, tables, marks, &mut store, message);
     let verdict = received.verdict;
     let after = received.end;
-    show::print_verdict(what, verdict);
-    show::print_marks(marks);
-    show::print_words(b"  store", &store);
-    show::print_end(after);
-    after
+    show::print_verdict(rt, what, verdict)?;
+    show::print_marks(rt, marks)?;
+    show::print_words(rt, b"  store", &store)?;
+    show::print_end(rt, after)?;
+    Ok(after)
 }
 
-fn receiving(what: &[u8], end: End, message: &[u32]) -> End {
+fn receiving(rt: &impl Print, what: &[u8], end: End, message: &[u32]) -> io::Result<End> {
     let here = HERE;
     let mut marks = [5u8, 7];
-    receiving_on(what, end, &here, &mut marks, message)
+    receiving_on(rt, what, end, &here, &mut marks, message)
 }
 
-fn refusals(end: End) {
-    receiving(b"receive two words", end, &[5u32, 0]);
-    receiving(b"receive of another run", end, &[6u32, 0, 0]);
-    receiving(b"receive for another site", end, &[5u32, 1, 0]);
-    receiving(b"receive of no such step", end, &[5u32, 3, 0]);
-    receiving(b"receive of no such relation", end, &[5u32, 258, 0]);
-    receiving(b"receive of second word 255", end, &[5u32, 255, 0]);
-    receiving(b"receive of second word 263", end, &[5u32, 263, 0]);
-    receiving(b"receive of second word 264", end, &[5u32, 264, 0]);
-    receiving(b"receive of second word 511", end, &[5u32, 511, 0]);
-    receiving(b"receive too few words", end, &[5u32, 0, 2, 3]);
-    receiving(b"receive values that do not rise", end, &[5u32, 0, 2, 3, 3]);
+fn refusals(rt: &impl Print, end: End) -> io::Result<()> {
+    receiving(rt, b"receive two words", end, &[5u32, 0])?;
+    receiving(rt, b"receive of another run", end, &[6u32, 0, 0])?;
+    receiving(rt, b"receive for another site", end, &[5u32, 1, 0])?;
+    receiving(rt, b"receive of no such step", end, &[5u32, 3, 0])?;
+    receiving(rt, b"receive of no such relation", end, &[5u32, 258, 0])?;
+    receiving(rt, b"receive of second word 255", end, &[5u32, 255, 0])?;
+    receiving(rt, b"receive of second word 263", end, &[5u32, 263, 0])?;
+    receiving(rt, b"receive of second word 264", end, &[5u32, 264, 0])?;
+    receiving(rt, b"receive of second word 511", end, &[5u32, 511, 0])?;
+    receiving(rt, b"receive too few words", end, &[5u32, 0, 2, 3])?;
     receiving(
+        rt,
+        b"receive values that do not rise",
+        end,
+        &[5u32, 0, 2, 3, 3],
+    )?;
+    receiving(
+        rt,
         b"receive a count of 4,097 without its words",
         end,
         &[5u32, 0, 4097],
-    );
-    receiving(b"receive the greatest count", end, &[5u32, 0, 4294967295]);
+    )?;
     receiving(
+        rt,
+        b"receive the greatest count",
+        end,
+        &[5u32, 0, 4294967295],
+    )?;
+    receiving(
+        rt,
         b"receive the greatest count of rows",
         end,
         &[5u32, 256, 4294967295],
-    );
+    )?;
     receiving(
+        rt,
         b"receive with an earlier step missing",
         end,
         &[5u32, 2, 1, 2],
-    );
-    receiving(b"receive rows that do not fit", end, &[5u32, 256, 1, 1, 7]);
+    )?;
+    receiving(
+        rt,
+        b"receive rows that do not fit",
+        end,
+        &[5u32, 256, 1, 1, 7],
+    )?;
+    Ok(())
 }
 
-fn receivings(end: End) -> End {
-    refusals(end);
-    receiving(b"receive no value", end, &[5u32, 0, 0]);
-    let first = receiving(b"receive step 0", end, &[5u32, 0, 1, 2]);
-    making::rows(b"make rows with step 2 missing", first, 0);
-    receiving(b"receive step 0 again", first, &[5u32, 0, 1, 2]);
-    let rows = receiving(b"receive rows of relation 1", first, &[5u32, 257, 1, 2]);
-    receiving(b"receive them again", rows, &[5u32, 257, 1, 2]);
-    let second = receiving(b"receive step 2", first, &[5u32, 2, 1, 2]);
-    second
+fn receivings(rt: &impl Print, end: End) -> io::Result<End> {
+    refusals(rt, end)?;
+    receiving(rt, b"receive no value", end, &[5u32, 0, 0])?;
+    let first = receiving(rt, b"receive step 0", end, &[5u32, 0, 1, 2])?;
+    making::rows(rt, b"make rows with step 2 missing", first, 0)?;
+    receiving(rt, b"receive step 0 again", first, &[5u32, 0, 1, 2])?;
+    let rows = receiving(rt, b"receive rows of relation 1", first, &[5u32, 257, 1, 2])?;
+    receiving(rt, b"receive them again", rows, &[5u32, 257, 1, 2])?;
+    let second = receiving(rt, b"receive step 2", first, &[5u32, 2, 1, 2])?;
+    Ok(second)
 }
 
-fn unsound() {
+fn unsound(rt: &impl Print) -> io::Result<()> {
     let end = opened();
     let mut many = end;
     many.applied = [3u32; 8];
     receiving(
+        rt,
         b"receive with more applied than there are",
         many,
         &[5u32, 0, 0],
-    );
+    )?;
     let mut full = end;
     full.used = 18446744073709551615;
     receiving(
+        rt,
         b"receive rows with more used than there is",
         full,
         &[5u32, 257, 1, 2],
-    );
+    )?;
     let mut marks = [1u8; 1];
     let here = HERE;
     receiving_on(
+        rt,
         b"receive with one mark",
         end,
         &here,
         &mut marks,
         &[5u32, 0, 0],
-    );
+    )?;
     let short = [2u32, 0, 1];
     receiving_on(
+        rt,
         b"receive on tables cut short",
         end,
         &short,
         &mut marks,
         &[5u32, 0, 0],
-    );
+    )?;
+    Ok(())
 }
 
 // A station delivers to itself: site 1 is the assembly site.
-fn delivered(last: End) {
+fn delivered(rt: &impl Print, last: End) -> io::Result<()> {
     let here = HERE;
     let mut marks = [0u8, 1];
     let mut message = [9u32; 5];
@@ -229,18 +275,18 @@ fn delivered(last: End) {
     station::making::make_rows(last, &here, &marks, 0, &mut message);
     let received = station::receiving::receive(last, &here, &mut marks, &mut store, &message);
     let verdict = received.verdict;
-    show::print_verdict(b"receive rows where they were made", verdict);
-    show::print_marks(&marks);
-    show::print_words(b"  store", &store);
-    show::print_end(received.end);
+    show::print_verdict(rt, b"receive rows where they were made", verdict)?;
+    show::print_marks(rt, &marks)?;
+    show::print_words(rt, b"  store", &store)?;
+    show::print_end(rt, received.end)
 }
 
-fn main() {
-    openings();
+fn main(rt: HostRuntime) -> io::Result<()> {
+    openings(&rt)?;
     let end = opened();
-    let last = receivings(end);
-    unsound();
-    making::makings(end, last);
-    making::lent(last);
-    delivered(last);
+    let last = receivings(&rt, end)?;
+    unsound(&rt)?;
+    making::makings(&rt, end, last)?;
+    making::lent(&rt, last)?;
+    delivered(&rt, last)
 }

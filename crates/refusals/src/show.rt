@@ -2,51 +2,40 @@
 use ends::ends::End;
 use fields::puts::Written;
 use ground::Verdict;
+use std::io;
 
-pub(crate) fn print_verdict(what: &[u8], verdict: Verdict) {
-    io::write_all(1, what);
+pub(crate) fn print_verdict(rt: &impl Print, what: &[u8], verdict: Verdict) -> io::Result<()> {
+    rt.write_all(what)?;
     match verdict {
-        Verdict::Taken => {
-            io::write_all(1, b": taken\n");
-        }
-        Verdict::Refused { number, position } => {
-            io::write_all(1, b": refused ");
-            io::print_decimal(1, number as u64);
-            io::write_all(1, b" ");
-            io::print_decimal(1, position as u64);
-            io::write_all(1, b"\n");
-        }
+        Verdict::Taken => println!(rt; ": taken"),
+        Verdict::Refused { number, position } => println!(rt; ": refused {number} {position}"),
     }
 }
 
-fn print_byte(value: u8) {
-    io::print_decimal(1, value as u64);
+fn print_byte(rt: &impl Print, value: u8) -> io::Result<()> {
+    rt.print(value)
 }
 
-fn print_word(value: u32) {
-    io::print_decimal(1, value as u64);
+fn print_word(rt: &impl Print, value: u32) -> io::Result<()> {
+    rt.print(value)
 }
 
-pub(crate) fn print_marks(marks: &[u8]) {
-    io::write_all(1, b"  marks");
-    let mut i: usize = 0;
-    while i < marks.len() {
-        io::write_all(1, b" ");
-        print_byte(marks[i]);
-        i += 1;
+pub(crate) fn print_marks(rt: &impl Print, marks: &[u8]) -> io::Result<()> {
+    rt.write_all(b"  marks")?;
+    for mark in marks {
+        rt.write_all(b" ")?;
+        print_byte(rt, *mark)?;
     }
-    io::write_all(1, b"\n");
+    rt.write_all(b"\n")
 }
 
-pub(crate) fn print_words(what: &[u8], words: &[u32]) {
-    io::write_all(1, what);
-    let mut i: usize = 0;
-    while i < words.len() {
-        io::write_all(1, b" ");
-        print_word(words[i]);
-        i += 1;
+pub(crate) fn print_words(rt: &impl Print, what: &[u8], words: &[u32]) -> io::Result<()> {
+    rt.write_all(what)?;
+    for word in words {
+        rt.write_all(b" ")?;
+        print_word(rt, *word)?;
     }
-    io::write_all(1, b"\n");
+    rt.write_all(b"\n")
 }
 
 fn flag(arrived: bool) -> u32 {
@@ -54,7 +43,7 @@ fn flag(arrived: bool) -> u32 {
 }
 
 // Steps applied and row messages arrived of each relation, and the words used of the store.
-pub(crate) fn print_end(end: End) {
+pub(crate) fn print_end(rt: &impl Print, end: End) -> io::Result<()> {
     let applied = end.applied;
     let a = end.arrived;
     let arrived = [
@@ -67,24 +56,26 @@ pub(crate) fn print_end(end: End) {
         flag(a[6]),
         flag(a[7]),
     ];
-    print_words(b"  applied", &applied);
-    print_words(b"  arrived", &arrived);
-    io::write_all(1, b"  used ");
-    io::print_decimal(1, end.used as u64);
-    io::write_all(1, b"\n");
+    print_words(rt, b"  applied", &applied)?;
+    print_words(rt, b"  arrived", &arrived)?;
+    let used = end.used;
+    println!(rt; "  used {used}")
 }
 
-pub(crate) fn print_made(what: &[u8], made: Written, message: &[u32]) {
+pub(crate) fn print_made(
+    rt: &impl Print,
+    what: &[u8],
+    made: Written,
+    message: &[u32],
+) -> io::Result<()> {
     match made {
         Written::Length(n) => {
-            io::write_all(1, what);
-            io::write_all(1, b": made ");
-            io::print_decimal(1, n as u64);
-            io::write_all(1, b"\n");
+            rt.write_all(what)?;
+            println!(rt; ": made {n}")?
         }
         Written::Refused { number, position } => {
-            print_verdict(what, Verdict::Refused { number, position });
+            print_verdict(rt, what, Verdict::Refused { number, position })?
         }
     }
-    print_words(b"  message", message);
+    print_words(rt, b"  message", message)
 }
