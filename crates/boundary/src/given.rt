@@ -82,8 +82,7 @@ pub(crate) fn read_end(envelope: &[u8], program: &[u8], state: &[u32]) -> EndRea
 }
 
 // 1: an envelope is read. Taken, 0.
-#[unsafe(no_mangle)]
-pub extern "C" fn legestran_read_envelope(envelope: &[u8]) -> u64
+pub fn legestran_read_envelope(envelope: &[u8]) -> u64
     ensures { result ≡ verdict_number (verdict_of (read_envelope envelope.now)) }
 {
     let read = envelopes::reading::read_envelope(envelope);
@@ -92,8 +91,7 @@ pub extern "C" fn legestran_read_envelope(envelope: &[u8]) -> u64
 }
 
 // 2: an envelope, then a program for it, is read. Taken, 0.
-#[unsafe(no_mangle)]
-pub extern "C" fn legestran_read_program(envelope: &[u8], program: &[u8]) -> u64
+pub fn legestran_read_program(envelope: &[u8], program: &[u8]) -> u64
     ensures { result ≡ verdict_number (verdict_of (papers_in envelope.now program.now)) }
 {
     let papers = read_papers(envelope, program);

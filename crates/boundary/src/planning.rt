@@ -51,8 +51,7 @@ fn program_for(envelope: &[u8]) -> Program
 }
 
 // 3: the program for an envelope, at the front of program. Taken, the bytes written.
-#[unsafe(no_mangle)]
-pub extern "C" fn legestran_plan(envelope: &[u8], program: &mut [u8]) -> u64
+pub fn legestran_plan(envelope: &[u8], program: &mut [u8]) -> u64
     ensures { (result ≡ written_number (written_of (plan_from envelope.now (length program.old)))) × (program.new ≡ written_in program.old (plan_from envelope.now (length program.old))) }
 {
     let read = envelopes::reading::read_envelope(envelope);
@@ -135,8 +134,7 @@ fn put_estimate(estimate: Estimate, lines: [Line; 156], out: &mut [u32]) -> Writ
 }
 
 // 11: what a program is expected to cost, at the front of out. Taken, the words written.
-#[unsafe(no_mangle)]
-pub extern "C" fn legestran_estimate(envelope: &[u8], program: &[u8], out: &mut [u32]) -> u64
+pub fn legestran_estimate(envelope: &[u8], program: &[u8], out: &mut [u32]) -> u64
     ensures { (result ≡ written_number (written_of (estimate_from envelope.now program.now (length out.old)))) × (out.new ≡ written_in out.old (estimate_from envelope.now program.now (length out.old))) }
 {
     let read = crate::given::read_papers(envelope, program);

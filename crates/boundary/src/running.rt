@@ -8,8 +8,7 @@ ghost use Rattle.boundary.specs.Running.{run_from, answer_from};
 use ground::Verdict;
 
 // 4: the one-place run of a program: the marks of every row, after local operations and every step. Taken, 0.
-#[unsafe(no_mangle)]
-pub extern "C" fn legestran_run_in_one_place(
+pub fn legestran_run_in_one_place(
     envelope: &[u8],
     program: &[u8],
     tables: &[u32],
@@ -32,8 +31,7 @@ pub extern "C" fn legestran_run_in_one_place(
 }
 
 // 5: the answer on tables, at the front of out. Taken, the words written.
-#[unsafe(no_mangle)]
-pub extern "C" fn legestran_answer(envelope: &[u8], tables: &[u32], out: &mut [u32]) -> u64
+pub fn legestran_answer(envelope: &[u8], tables: &[u32], out: &mut [u32]) -> u64
     ensures { (result ≡ written_number (written_of (answer_from envelope.now tables.now (length out.old)))) × (out.new ≡ written_in out.old (answer_from envelope.now tables.now (length out.old))) }
 {
     let read = envelopes::reading::read_envelope(envelope);

@@ -75,8 +75,7 @@ fn open_given(
 }
 
 // 6: an end is opened: its marks and its state. Taken, 0.
-#[unsafe(no_mangle)]
-pub extern "C" fn legestran_open(
+pub fn legestran_open(
     envelope: &[u8],
     program: &[u8],
     site: u32,
@@ -102,8 +101,7 @@ pub extern "C" fn legestran_open(
 }
 
 // 7: the value message of a step, at the front of message. Taken, the words written.
-#[unsafe(no_mangle)]
-pub extern "C" fn legestran_make_values(
+pub fn legestran_make_values(
     envelope: &[u8],
     program: &[u8],
     state: &[u32],
@@ -127,8 +125,7 @@ pub extern "C" fn legestran_make_values(
 }
 
 // 8: the row message of a relation, at the front of message. Taken, the words written.
-#[unsafe(no_mangle)]
-pub extern "C" fn legestran_make_rows(
+pub fn legestran_make_rows(
     envelope: &[u8],
     program: &[u8],
     state: &[u32],
@@ -182,8 +179,7 @@ fn receive_given(
 }
 
 // 9: a message is received: the state, the marks and the store. Taken, 0.
-#[unsafe(no_mangle)]
-pub extern "C" fn legestran_receive(
+pub fn legestran_receive(
     envelope: &[u8],
     program: &[u8],
     state: &mut [u32],
@@ -207,8 +203,7 @@ pub extern "C" fn legestran_receive(
 }
 
 // 10: the answer at the assembly site, at the front of out. Taken, the words written.
-#[unsafe(no_mangle)]
-pub extern "C" fn legestran_answer_at_end(
+pub fn legestran_answer_at_end(
     envelope: &[u8],
     program: &[u8],
     state: &[u32],
