@@ -30,22 +30,23 @@ fn print_word(rt: &impl Print, value: u32) -> io::Result<()> {
     rt.print(value)
 }
 
-fn print_words(rt: &impl Print, what: &[u8], words: &[u32]) -> io::Result<()> {
-    rt.write_all(what)?;
+fn print_words(rt: &impl Print, what: &str, words: &[u32]) -> io::Result<()> {
+    print!(rt; "{what}")?;
     for word in words {
-        rt.write_all(b" ")?;
+        print!(rt; " ")?;
         print_word(rt, *word)?;
     }
-    rt.write_all(b"\n")
+    println!(rt;)
 }
 
-fn print_answered(rt: &impl Print, what: &[u8], answered: Written, out: &[u32]) -> io::Result<()> {
-    rt.write_all(what)?;
+fn print_answered(rt: &impl Print, what: &str, answered: Written, out: &[u32]) -> io::Result<()> {
     match answered {
-        Written::Length(n) => println!(rt; ": {n} words")?,
-        Written::Refused { number, position } => println!(rt; ": refused {number} {position}")?,
+        Written::Length(n) => println!(rt; "{what}: {n} words")?,
+        Written::Refused { number, position } => {
+            println!(rt; "{what}: refused {number} {position}")?
+        }
     }
-    print_words(rt, b"  out", out)
+    print_words(rt, "  out", out)
 }
 
 fn place(relation: u8, column: u8) -> Place {
@@ -82,7 +83,7 @@ fn program_on(column: u8) -> Program {
 
 // ---- on tables
 
-fn on_tables(rt: &impl Print, what: &[u8], column: u8) -> io::Result<()> {
+fn on_tables(rt: &impl Print, what: &str, column: u8) -> io::Result<()> {
     let whole = WHOLE;
     let mut out = [9u32; 14];
     let answered = answerer::answer::answer(envelope_on(column), &whole, &mut out);
@@ -91,7 +92,7 @@ fn on_tables(rt: &impl Print, what: &[u8], column: u8) -> io::Result<()> {
 
 // ---- at an end
 
-fn asked(rt: &impl Print, what: &[u8], end: End, store: &[u32]) -> io::Result<()> {
+fn asked(rt: &impl Print, what: &str, end: End, store: &[u32]) -> io::Result<()> {
     let mut out = [9u32; 14];
     let answered = answerer::assembly::answer_at_end(end, store, &mut out);
     print_answered(rt, what, answered, &out)
@@ -159,9 +160,9 @@ fn with_weights(column: u8, end: End, marks: &mut [u8], store: &mut [u32]) -> En
 fn gathered(rt: &impl Print, column: u8, store: &mut [u32]) -> io::Result<End> {
     let mut marks = [9u8; 3];
     let start = reduced(column, &mut marks, store);
-    asked(rt, b"before any rows", start, store)?;
+    asked(rt, "before any rows", start, store)?;
     let first = with_coupons(start, &mut marks, store);
-    asked(rt, b"without the rows of WEIGH", first, store)?;
+    asked(rt, "without the rows of WEIGH", first, store)?;
     Ok(with_weights(column, first, &mut marks, store))
 }
 
@@ -174,21 +175,21 @@ fn with_used(end: End, used: usize) -> End {
 fn refused_by_store(rt: &impl Print, end: End, store: &[u32]) -> io::Result<()> {
     asked(
         rt,
-        b"with words in use past the store",
+        "with words in use past the store",
         with_used(end, 21),
         store,
     )?;
-    asked(rt, b"with a message cut short", with_used(end, 15), store)?;
-    asked(rt, b"with a message missing", with_used(end, 5), store)?;
+    asked(rt, "with a message cut short", with_used(end, 15), store)?;
+    asked(rt, "with a message missing", with_used(end, 5), store)?;
     let mut other = end;
     other.run = 6;
-    asked(rt, b"with messages of another run", other, store)?;
+    asked(rt, "with messages of another run", other, store)?;
     let mut unmarked = end;
     unmarked.arrived = [false; 8];
-    asked(rt, b"with no relation marked as arrived", unmarked, store)?;
+    asked(rt, "with no relation marked as arrived", unmarked, store)?;
     asked(
         rt,
-        b"with nothing arrived and nothing in use",
+        "with nothing arrived and nothing in use",
         with_used(unmarked, 0),
         store,
     )
@@ -199,34 +200,34 @@ fn refused(rt: &impl Print, end: End, store: &[u32]) -> io::Result<()> {
     let mut envelope = end.envelope;
     envelope.version = 2;
     version.envelope = envelope;
-    asked(rt, b"by another version", version, store)?;
+    asked(rt, "by another version", version, store)?;
     let mut many = end;
     many.applied = [2u32; 8];
-    asked(rt, b"with more applied than there are", many, store)?;
+    asked(rt, "with more applied than there are", many, store)?;
     let mut away = with_used(end, 21);
     away.site = 2;
     asked(
         rt,
-        b"at another site, with words in use past the store",
+        "at another site, with words in use past the store",
         away,
         store,
     )?;
     refused_by_store(rt, end, store)?;
     let mut out = [9u32; 5];
     let answered = answerer::assembly::answer_at_end(end, store, &mut out);
-    print_answered(rt, b"with too little room", answered, &out)
+    print_answered(rt, "with too little room", answered, &out)
 }
 
 fn main(rt: HostRuntime) -> io::Result<()> {
-    on_tables(&rt, b"on number, on tables", NUMBER)?;
-    on_tables(&rt, b"on date, on tables", DATE)?;
+    on_tables(&rt, "on number, on tables", NUMBER)?;
+    on_tables(&rt, "on date, on tables", DATE)?;
     let mut store = [9u32; 20];
     let end = gathered(&rt, NUMBER, &mut store)?;
-    print_words(&rt, b"store", &store)?;
-    asked(&rt, b"on number, at an end", end, &store)?;
+    print_words(&rt, "store", &store)?;
+    asked(&rt, "on number, at an end", end, &store)?;
     let mut other = [9u32; 20];
     let last = gathered(&rt, DATE, &mut other)?;
-    print_words(&rt, b"store", &other)?;
-    asked(&rt, b"on date, at an end", last, &other)?;
+    print_words(&rt, "store", &other)?;
+    asked(&rt, "on date, at an end", last, &other)?;
     refused(&rt, end, &store)
 }

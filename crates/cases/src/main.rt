@@ -18,16 +18,17 @@ const SMALL: [u8; 54] = [
     0, 0, 0, 2, 1, 5, 0, 0, 0, 0, 4, 2, 0, 0, 0, 1, 2, 0, 0, 1, 0, 1, 0, 1,
 ];
 
-fn print_verdict(rt: &impl Print, what: &[u8], verdict: Verdict) -> io::Result<()> {
-    rt.write_all(what)?;
+fn print_verdict(rt: &impl Print, what: &str, verdict: Verdict) -> io::Result<()> {
     match verdict {
-        Verdict::Taken => println!(rt; ": taken"),
-        Verdict::Refused { number, position } => println!(rt; ": refused {number} {position}"),
+        Verdict::Taken => println!(rt; "{what}: taken"),
+        Verdict::Refused { number, position } => {
+            println!(rt; "{what}: refused {number} {position}")
+        }
     }
 }
 
 // The first n bytes of a paper.
-fn cut(rt: &impl Print, what: &[u8], paper: &[u8], n: usize) -> io::Result<()> {
+fn cut(rt: &impl Print, what: &str, paper: &[u8], n: usize) -> io::Result<()> {
     if n <= paper.len() {
         let read = envelopes::reading::read_envelope(&paper[..n]);
         let verdict = read.verdict;
@@ -37,7 +38,7 @@ fn cut(rt: &impl Print, what: &[u8], paper: &[u8], n: usize) -> io::Result<()> {
 }
 
 // The small envelope with one byte changed.
-fn changed(rt: &impl Print, what: &[u8], at: usize, value: u8) -> io::Result<()> {
+fn changed(rt: &impl Print, what: &str, at: usize, value: u8) -> io::Result<()> {
     if at < 54 {
         let mut paper = SMALL;
         paper[at] = value;
@@ -50,42 +51,42 @@ fn changed(rt: &impl Print, what: &[u8], at: usize, value: u8) -> io::Result<()>
 
 fn heads(rt: &impl Print) -> io::Result<()> {
     let paper = SMALL;
-    cut(rt, b"the small envelope", &paper, 54)?;
-    cut(rt, b"the empty file", &paper, 0)?;
-    cut(rt, b"cut inside the mark", &paper, 2)?;
-    cut(rt, b"cut inside a size", &paper, 8)?;
-    changed(rt, b"another mark", 2, 79)?;
-    changed(rt, b"another version", 3, 2)?;
-    changed(rt, b"version 0x0101", 4, 1)
+    cut(rt, "the small envelope", &paper, 54)?;
+    cut(rt, "the empty file", &paper, 0)?;
+    cut(rt, "cut inside the mark", &paper, 2)?;
+    cut(rt, "cut inside a size", &paper, 8)?;
+    changed(rt, "another mark", 2, 79)?;
+    changed(rt, "another version", 3, 2)?;
+    changed(rt, "version 0x0101", 4, 1)
 }
 
 fn limits(rt: &impl Print) -> io::Result<()> {
-    changed(rt, b"no domain", 5, 0)?;
-    changed(rt, b"seventeen domains", 5, 17)?;
-    changed(rt, b"site 7", 15, 7)?;
-    changed(rt, b"site 8", 15, 8)?;
-    changed(rt, b"a distinct count above the rows", 23, 6)?;
-    changed(rt, b"a distinct count of 0 with rows", 23, 0)?;
-    changed(rt, b"a domain that is not there", 27, 2)?;
-    changed(rt, b"thirteen clauses", 45, 13)?;
-    changed(rt, b"a clause of a third kind", 46, 3)?;
-    changed(rt, b"a column that is not there", 48, 2)?;
-    changed(rt, b"no target", 51, 0)
+    changed(rt, "no domain", 5, 0)?;
+    changed(rt, "seventeen domains", 5, 17)?;
+    changed(rt, "site 7", 15, 7)?;
+    changed(rt, "site 8", 15, 8)?;
+    changed(rt, "a distinct count above the rows", 23, 6)?;
+    changed(rt, "a distinct count of 0 with rows", 23, 0)?;
+    changed(rt, "a domain that is not there", 27, 2)?;
+    changed(rt, "thirteen clauses", 45, 13)?;
+    changed(rt, "a clause of a third kind", 46, 3)?;
+    changed(rt, "a column that is not there", 48, 2)?;
+    changed(rt, "no target", 51, 0)
 }
 
 fn rules(rt: &impl Print) -> io::Result<()> {
-    changed(rt, b"a join of two domains", 48, 1)?;
-    changed(rt, b"a join of a column with itself", 49, 0)?;
+    changed(rt, "a join of two domains", 48, 1)?;
+    changed(rt, "a join of a column with itself", 49, 0)?;
     // The small envelope with a byte behind it; and with no clause, so that relation 1 has no kept column.
     cut(
         rt,
-        b"a byte left over",
+        "a byte left over",
         b"CPN\x01\x00\x02\x0a\x00\x00\x00\x14\x00\x00\x00\x02\x01\x02\x05\x00\x00\x00\x00\x01\x05\x00\x00\x00\x01\x02\x03\x00\x00\x00\x02\x01\x05\x00\x00\x00\x00\x04\x02\x00\x00\x00\x01\x02\x00\x00\x01\x00\x01\x00\x01\x00",
         55,
     )?;
     cut(
         rt,
-        b"a relation with no kept column",
+        "a relation with no kept column",
         b"CPN\x01\x00\x02\x0a\x00\x00\x00\x14\x00\x00\x00\x02\x01\x02\x05\x00\x00\x00\x00\x01\x05\x00\x00\x00\x01\x02\x03\x00\x00\x00\x02\x01\x05\x00\x00\x00\x00\x04\x02\x00\x00\x00\x00\x01\x00\x01",
         49,
     )
@@ -98,7 +99,7 @@ fn small() -> Envelope {
 }
 
 // The small envelope as a struct, with its clause standing that often.
-fn clauses(rt: &impl Print, what: &[u8], count: u8) -> io::Result<()> {
+fn clauses(rt: &impl Print, what: &str, count: u8) -> io::Result<()> {
     let mut envelope = small();
     let array = envelope.clauses;
     let clause = array[0];
@@ -110,7 +111,7 @@ fn clauses(rt: &impl Print, what: &[u8], count: u8) -> io::Result<()> {
 }
 
 // A program of relation left reduced by relation right, column 0 each, that often.
-fn steps(rt: &impl Print, what: &[u8], site: u8, count: u8, left: u8, right: u8) -> io::Result<()> {
+fn steps(rt: &impl Print, what: &str, site: u8, count: u8, left: u8, right: u8) -> io::Result<()> {
     let step = Step {
         left: Place {
             relation: left,
@@ -132,18 +133,15 @@ fn steps(rt: &impl Print, what: &[u8], site: u8, count: u8, left: u8, right: u8)
 }
 
 // A program as bytes.
-fn program(rt: &impl Print, what: &[u8], paper: &[u8]) -> io::Result<()> {
+fn program(rt: &impl Print, what: &str, paper: &[u8]) -> io::Result<()> {
     let read = papers::programs::read_program(small(), paper);
     let verdict = read.verdict;
     print_verdict(rt, what, verdict)
 }
 
-fn print_written(rt: &impl Print, what: &[u8], written: Written) -> io::Result<()> {
+fn print_written(rt: &impl Print, what: &str, written: Written) -> io::Result<()> {
     match written {
-        Written::Length(n) => {
-            rt.write_all(what)?;
-            println!(rt; ": wrote {n}")
-        }
+        Written::Length(n) => println!(rt; "{what}: wrote {n}"),
         Written::Refused { number, position } => {
             print_verdict(rt, what, Verdict::Refused { number, position })
         }
@@ -155,45 +153,45 @@ fn writers(rt: &impl Print) -> io::Result<()> {
     let envelope = small();
     print_written(
         rt,
-        b"written to 54 bytes",
+        "written to 54 bytes",
         envelopes::reading::write_envelope(envelope, &mut room),
     )?;
     let mut short = [0u8; 53];
     print_written(
         rt,
-        b"written to 53 bytes",
+        "written to 53 bytes",
         envelopes::reading::write_envelope(envelope, &mut short),
     )
 }
 
 fn structs(rt: &impl Print) -> io::Result<()> {
-    clauses(rt, b"twelve clauses", 12)?;
-    clauses(rt, b"thirteen clauses in a struct", 13)?;
-    steps(rt, b"156 steps", 1, 156, 0, 1)?;
-    steps(rt, b"157 steps", 1, 157, 0, 1)?;
-    steps(rt, b"a site that holds nothing", 3, 1, 0, 1)?;
-    steps(rt, b"a relation that is not there", 1, 1, 0, 2)?;
-    steps(rt, b"a step within a relation", 1, 1, 1, 1)
+    clauses(rt, "twelve clauses", 12)?;
+    clauses(rt, "thirteen clauses in a struct", 13)?;
+    steps(rt, "156 steps", 1, 156, 0, 1)?;
+    steps(rt, "157 steps", 1, 157, 0, 1)?;
+    steps(rt, "a site that holds nothing", 3, 1, 0, 1)?;
+    steps(rt, "a relation that is not there", 1, 1, 0, 2)?;
+    steps(rt, "a step within a relation", 1, 1, 1, 1)
 }
 
 fn programs(rt: &impl Print) -> io::Result<()> {
     program(
         rt,
-        b"a program of one step",
+        "a program of one step",
         b"SJP\x01\x00\x01\x01\x00\x00\x01\x00",
     )?;
-    program(rt, b"an empty program paper", b"")?;
+    program(rt, "an empty program paper", b"")?;
     program(
         rt,
-        b"a program cut inside its step",
+        "a program cut inside its step",
         b"SJP\x01\x00\x01\x01\x00\x00\x01",
     )?;
-    program(rt, b"an envelope for a program", b"CPN\x01\x00")?;
-    program(rt, b"a program of version 2", b"SJP\x02\x00\x01\x00")?;
-    program(rt, b"bytes behind a program", b"SJP\x01\x00\x01\x00\x07")?;
+    program(rt, "an envelope for a program", b"CPN\x01\x00")?;
+    program(rt, "a program of version 2", b"SJP\x02\x00\x01\x00")?;
+    program(rt, "bytes behind a program", b"SJP\x01\x00\x01\x00\x07")?;
     program(
         rt,
-        b"a step off every path",
+        "a step off every path",
         b"SJP\x01\x00\x01\x02\x00\x00\x01\x00\x00\x01\x01\x00",
     )
 }

@@ -52,7 +52,7 @@ fn three() -> Program {
 
 fn opening(
     rt: &impl Print,
-    what: &[u8],
+    what: &str,
     envelope: Envelope,
     program: Program,
     site: u32,
@@ -65,7 +65,7 @@ fn opening(
     show::print_marks(rt, &marks)
 }
 
-fn joined(rt: &impl Print, what: &[u8], left: Place, right: Place) -> io::Result<()> {
+fn joined(rt: &impl Print, what: &str, left: Place, right: Place) -> io::Result<()> {
     let here = HERE;
     let mut envelope = small();
     let clause = Clause {
@@ -75,7 +75,7 @@ fn joined(rt: &impl Print, what: &[u8], left: Place, right: Place) -> io::Result
     opening(rt, what, envelope, three(), 1, &here)
 }
 
-fn stepped(rt: &impl Print, what: &[u8], site: u8, left: u8, right: u8) -> io::Result<()> {
+fn stepped(rt: &impl Print, what: &str, site: u8, left: u8, right: u8) -> io::Result<()> {
     let here = HERE;
     let program = Program {
         site: site,
@@ -85,7 +85,7 @@ fn stepped(rt: &impl Print, what: &[u8], site: u8, left: u8, right: u8) -> io::R
     opening(rt, what, small(), program, 1, &here)
 }
 
-fn versioned(rt: &impl Print, what: &[u8], version: u16, clauses: u8) -> io::Result<()> {
+fn versioned(rt: &impl Print, what: &str, version: u16, clauses: u8) -> io::Result<()> {
     let here = HERE;
     let mut envelope = small();
     envelope.version = version;
@@ -95,38 +95,38 @@ fn versioned(rt: &impl Print, what: &[u8], version: u16, clauses: u8) -> io::Res
 
 fn openings(rt: &impl Print) -> io::Result<()> {
     let here = HERE;
-    opening(rt, b"open", small(), three(), 1, &here)?;
-    opening(rt, b"open where nothing is", small(), three(), 3, &here)?;
-    versioned(rt, b"open by another version", 2, 1)?;
+    opening(rt, "open", small(), three(), 1, &here)?;
+    opening(rt, "open where nothing is", small(), three(), 3, &here)?;
+    versioned(rt, "open by another version", 2, 1)?;
     joined(
         rt,
-        b"open by a column that is not there",
+        "open by a column that is not there",
         place(0, 2),
         place(1, 0),
     )?;
     joined(
         rt,
-        b"open by a join of two domains",
+        "open by a join of two domains",
         place(0, 1),
         place(1, 0),
     )?;
     joined(
         rt,
-        b"open by a join of a column with itself",
+        "open by a join of a column with itself",
         place(1, 0),
         place(1, 0),
     )?;
-    stepped(rt, b"open with a step that is not legal", 1, 1, 1)?;
-    stepped(rt, b"open with assembly where nothing is", 3, 0, 1)?;
-    versioned(rt, b"open with no kept column", 1, 0)?;
+    stepped(rt, "open with a step that is not legal", 1, 1, 1)?;
+    stepped(rt, "open with assembly where nothing is", 3, 0, 1)?;
+    versioned(rt, "open with no kept column", 1, 0)?;
     let short = [2u32, 0, 1];
-    opening(rt, b"open on tables cut short", small(), three(), 1, &short)?;
-    opening(rt, b"open at site 8", small(), three(), 8, &here)?;
-    opening(rt, b"open at site 257", small(), three(), 257, &here)?;
+    opening(rt, "open on tables cut short", small(), three(), 1, &short)?;
+    opening(rt, "open at site 8", small(), three(), 8, &here)?;
+    opening(rt, "open at site 257", small(), three(), 257, &here)?;
     let mut one = [9u8; 1];
     let opened = station::opening::open(small(), three(), 1, RUN, &here, &mut one);
     let verdict = opened.verdict;
-    show::print_verdict(rt, b"open with one mark", verdict)?;
+    show::print_verdict(rt, "open with one mark", verdict)?;
     show::print_marks(rt, &one)
 }
 
@@ -141,7 +141,7 @@ fn opened() -> End {
 
 fn receiving_on(
     rt: &impl Print,
-    what: &[u8],
+    what: &str,
     end: End,
     tables: &[u32],
     marks: &mut [u8],
@@ -153,61 +153,61 @@ fn receiving_on(
     let after = received.end;
     show::print_verdict(rt, what, verdict)?;
     show::print_marks(rt, marks)?;
-    show::print_words(rt, b"  store", &store)?;
+    show::print_words(rt, "  store", &store)?;
     show::print_end(rt, after)?;
     Ok(after)
 }
 
-fn receiving(rt: &impl Print, what: &[u8], end: End, message: &[u32]) -> io::Result<End> {
+fn receiving(rt: &impl Print, what: &str, end: End, message: &[u32]) -> io::Result<End> {
     let here = HERE;
     let mut marks = [5u8, 7];
     receiving_on(rt, what, end, &here, &mut marks, message)
 }
 
 fn refusals(rt: &impl Print, end: End) -> io::Result<()> {
-    receiving(rt, b"receive two words", end, &[5u32, 0])?;
-    receiving(rt, b"receive of another run", end, &[6u32, 0, 0])?;
-    receiving(rt, b"receive for another site", end, &[5u32, 1, 0])?;
-    receiving(rt, b"receive of no such step", end, &[5u32, 3, 0])?;
-    receiving(rt, b"receive of no such relation", end, &[5u32, 258, 0])?;
-    receiving(rt, b"receive of second word 255", end, &[5u32, 255, 0])?;
-    receiving(rt, b"receive of second word 263", end, &[5u32, 263, 0])?;
-    receiving(rt, b"receive of second word 264", end, &[5u32, 264, 0])?;
-    receiving(rt, b"receive of second word 511", end, &[5u32, 511, 0])?;
-    receiving(rt, b"receive too few words", end, &[5u32, 0, 2, 3])?;
+    receiving(rt, "receive two words", end, &[5u32, 0])?;
+    receiving(rt, "receive of another run", end, &[6u32, 0, 0])?;
+    receiving(rt, "receive for another site", end, &[5u32, 1, 0])?;
+    receiving(rt, "receive of no such step", end, &[5u32, 3, 0])?;
+    receiving(rt, "receive of no such relation", end, &[5u32, 258, 0])?;
+    receiving(rt, "receive of second word 255", end, &[5u32, 255, 0])?;
+    receiving(rt, "receive of second word 263", end, &[5u32, 263, 0])?;
+    receiving(rt, "receive of second word 264", end, &[5u32, 264, 0])?;
+    receiving(rt, "receive of second word 511", end, &[5u32, 511, 0])?;
+    receiving(rt, "receive too few words", end, &[5u32, 0, 2, 3])?;
     receiving(
         rt,
-        b"receive values that do not rise",
+        "receive values that do not rise",
         end,
         &[5u32, 0, 2, 3, 3],
     )?;
     receiving(
         rt,
-        b"receive a count of 4,097 without its words",
+        "receive a count of 4,097 without its words",
         end,
         &[5u32, 0, 4097],
     )?;
     receiving(
         rt,
-        b"receive the greatest count",
+        "receive the greatest count",
         end,
         &[5u32, 0, 4294967295],
     )?;
     receiving(
         rt,
-        b"receive the greatest count of rows",
+        "receive the greatest count of rows",
         end,
         &[5u32, 256, 4294967295],
     )?;
     receiving(
         rt,
-        b"receive with an earlier step missing",
+        "receive with an earlier step missing",
         end,
         &[5u32, 2, 1, 2],
     )?;
     receiving(
         rt,
-        b"receive rows that do not fit",
+        "receive rows that do not fit",
         end,
         &[5u32, 256, 1, 1, 7],
     )?;
@@ -216,13 +216,13 @@ fn refusals(rt: &impl Print, end: End) -> io::Result<()> {
 
 fn receivings(rt: &impl Print, end: End) -> io::Result<End> {
     refusals(rt, end)?;
-    receiving(rt, b"receive no value", end, &[5u32, 0, 0])?;
-    let first = receiving(rt, b"receive step 0", end, &[5u32, 0, 1, 2])?;
-    making::rows(rt, b"make rows with step 2 missing", first, 0)?;
-    receiving(rt, b"receive step 0 again", first, &[5u32, 0, 1, 2])?;
-    let rows = receiving(rt, b"receive rows of relation 1", first, &[5u32, 257, 1, 2])?;
-    receiving(rt, b"receive them again", rows, &[5u32, 257, 1, 2])?;
-    let second = receiving(rt, b"receive step 2", first, &[5u32, 2, 1, 2])?;
+    receiving(rt, "receive no value", end, &[5u32, 0, 0])?;
+    let first = receiving(rt, "receive step 0", end, &[5u32, 0, 1, 2])?;
+    making::rows(rt, "make rows with step 2 missing", first, 0)?;
+    receiving(rt, "receive step 0 again", first, &[5u32, 0, 1, 2])?;
+    let rows = receiving(rt, "receive rows of relation 1", first, &[5u32, 257, 1, 2])?;
+    receiving(rt, "receive them again", rows, &[5u32, 257, 1, 2])?;
+    let second = receiving(rt, "receive step 2", first, &[5u32, 2, 1, 2])?;
     Ok(second)
 }
 
@@ -232,7 +232,7 @@ fn unsound(rt: &impl Print) -> io::Result<()> {
     many.applied = [3u32; 8];
     receiving(
         rt,
-        b"receive with more applied than there are",
+        "receive with more applied than there are",
         many,
         &[5u32, 0, 0],
     )?;
@@ -240,7 +240,7 @@ fn unsound(rt: &impl Print) -> io::Result<()> {
     full.used = 18446744073709551615;
     receiving(
         rt,
-        b"receive rows with more used than there is",
+        "receive rows with more used than there is",
         full,
         &[5u32, 257, 1, 2],
     )?;
@@ -248,7 +248,7 @@ fn unsound(rt: &impl Print) -> io::Result<()> {
     let here = HERE;
     receiving_on(
         rt,
-        b"receive with one mark",
+        "receive with one mark",
         end,
         &here,
         &mut marks,
@@ -257,7 +257,7 @@ fn unsound(rt: &impl Print) -> io::Result<()> {
     let short = [2u32, 0, 1];
     receiving_on(
         rt,
-        b"receive on tables cut short",
+        "receive on tables cut short",
         end,
         &short,
         &mut marks,
@@ -275,9 +275,9 @@ fn delivered(rt: &impl Print, last: End) -> io::Result<()> {
     station::making::make_rows(last, &here, &marks, 0, &mut message);
     let received = station::receiving::receive(last, &here, &mut marks, &mut store, &message);
     let verdict = received.verdict;
-    show::print_verdict(rt, b"receive rows where they were made", verdict)?;
+    show::print_verdict(rt, "receive rows where they were made", verdict)?;
     show::print_marks(rt, &marks)?;
-    show::print_words(rt, b"  store", &store)?;
+    show::print_words(rt, "  store", &store)?;
     show::print_end(rt, received.end)
 }
 

@@ -3,7 +3,7 @@ use crate::show;
 use ends::ends::End;
 use std::io;
 
-fn values(rt: &impl Print, what: &[u8], end: End, number: u32) -> io::Result<()> {
+fn values(rt: &impl Print, what: &str, end: End, number: u32) -> io::Result<()> {
     let here = crate::HERE;
     let marks = [0u8, 1];
     let mut message = [9u32; 5];
@@ -11,7 +11,7 @@ fn values(rt: &impl Print, what: &[u8], end: End, number: u32) -> io::Result<()>
     show::print_made(rt, what, made, &message)
 }
 
-pub(crate) fn rows(rt: &impl Print, what: &[u8], end: End, relation: u32) -> io::Result<()> {
+pub(crate) fn rows(rt: &impl Print, what: &str, end: End, relation: u32) -> io::Result<()> {
     let here = crate::HERE;
     let marks = [0u8, 1];
     let mut message = [9u32; 6];
@@ -20,24 +20,24 @@ pub(crate) fn rows(rt: &impl Print, what: &[u8], end: End, relation: u32) -> io:
 }
 
 pub(crate) fn makings(rt: &impl Print, end: End, last: End) -> io::Result<()> {
-    values(rt, b"make step 1 with step 0 missing", end, 1)?;
-    values(rt, b"make step 0 for another site", end, 0)?;
-    values(rt, b"make no such step", end, 3)?;
-    values(rt, b"make step 1", last, 1)?;
-    rows(rt, b"make rows with step 0 missing", end, 0)?;
-    rows(rt, b"make rows of another site", last, 1)?;
-    rows(rt, b"make rows of no such relation", last, 256)?;
-    rows(rt, b"make rows of relation 0", last, 0)?;
+    values(rt, "make step 1 with step 0 missing", end, 1)?;
+    values(rt, "make step 0 for another site", end, 0)?;
+    values(rt, "make no such step", end, 3)?;
+    values(rt, "make step 1", last, 1)?;
+    rows(rt, "make rows with step 0 missing", end, 0)?;
+    rows(rt, "make rows of another site", last, 1)?;
+    rows(rt, "make rows of no such relation", last, 256)?;
+    rows(rt, "make rows of relation 0", last, 0)?;
     let here = crate::HERE;
     let marks = [0u8, 1];
     let mut message = [9u32; 4];
     let made = station::making::make_rows(last, &here, &marks, 0, &mut message);
-    show::print_made(rt, b"make rows that do not fit", made, &message)
+    show::print_made(rt, "make rows that do not fit", made, &message)
 }
 
 fn made_values(
     rt: &impl Print,
-    what: &[u8],
+    what: &str,
     end: End,
     tables: &[u32],
     marks: &[u8],
@@ -49,7 +49,7 @@ fn made_values(
 
 fn made_rows(
     rt: &impl Print,
-    what: &[u8],
+    what: &str,
     end: End,
     tables: &[u32],
     marks: &[u8],
@@ -65,21 +65,21 @@ pub(crate) fn lent(rt: &impl Print, last: End) -> io::Result<()> {
     let marks = [0u8, 1];
     let mut many = last;
     many.applied = [3u32; 8];
-    made_values(rt, b"make step 1 on tables cut short", last, &short, &marks)?;
-    made_values(rt, b"make step 1 with one mark", last, &here, &[1u8])?;
-    made_values(rt, b"make values that do not fit", last, &here, &marks)?;
+    made_values(rt, "make step 1 on tables cut short", last, &short, &marks)?;
+    made_values(rt, "make step 1 with one mark", last, &here, &[1u8])?;
+    made_values(rt, "make values that do not fit", last, &here, &marks)?;
     made_values(
         rt,
-        b"make step 1 with more applied than there are",
+        "make step 1 with more applied than there are",
         many,
         &here,
         &marks,
     )?;
-    made_rows(rt, b"make rows on tables cut short", last, &short, &marks)?;
-    made_rows(rt, b"make rows with one mark", last, &here, &[1u8])?;
+    made_rows(rt, "make rows on tables cut short", last, &short, &marks)?;
+    made_rows(rt, "make rows with one mark", last, &here, &[1u8])?;
     made_rows(
         rt,
-        b"make rows with more applied than there are",
+        "make rows with more applied than there are",
         many,
         &here,
         &marks,

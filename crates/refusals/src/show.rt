@@ -4,11 +4,12 @@ use fields::puts::Written;
 use ground::Verdict;
 use std::io;
 
-pub(crate) fn print_verdict(rt: &impl Print, what: &[u8], verdict: Verdict) -> io::Result<()> {
-    rt.write_all(what)?;
+pub(crate) fn print_verdict(rt: &impl Print, what: &str, verdict: Verdict) -> io::Result<()> {
     match verdict {
-        Verdict::Taken => println!(rt; ": taken"),
-        Verdict::Refused { number, position } => println!(rt; ": refused {number} {position}"),
+        Verdict::Taken => println!(rt; "{what}: taken"),
+        Verdict::Refused { number, position } => {
+            println!(rt; "{what}: refused {number} {position}")
+        }
     }
 }
 
@@ -21,21 +22,21 @@ fn print_word(rt: &impl Print, value: u32) -> io::Result<()> {
 }
 
 pub(crate) fn print_marks(rt: &impl Print, marks: &[u8]) -> io::Result<()> {
-    rt.write_all(b"  marks")?;
+    print!(rt; "  marks")?;
     for mark in marks {
-        rt.write_all(b" ")?;
+        print!(rt; " ")?;
         print_byte(rt, *mark)?;
     }
-    rt.write_all(b"\n")
+    println!(rt;)
 }
 
-pub(crate) fn print_words(rt: &impl Print, what: &[u8], words: &[u32]) -> io::Result<()> {
-    rt.write_all(what)?;
+pub(crate) fn print_words(rt: &impl Print, what: &str, words: &[u32]) -> io::Result<()> {
+    print!(rt; "{what}")?;
     for word in words {
-        rt.write_all(b" ")?;
+        print!(rt; " ")?;
         print_word(rt, *word)?;
     }
-    rt.write_all(b"\n")
+    println!(rt;)
 }
 
 fn flag(arrived: bool) -> u32 {
@@ -56,26 +57,23 @@ pub(crate) fn print_end(rt: &impl Print, end: End) -> io::Result<()> {
         flag(a[6]),
         flag(a[7]),
     ];
-    print_words(rt, b"  applied", &applied)?;
-    print_words(rt, b"  arrived", &arrived)?;
+    print_words(rt, "  applied", &applied)?;
+    print_words(rt, "  arrived", &arrived)?;
     let used = end.used;
     println!(rt; "  used {used}")
 }
 
 pub(crate) fn print_made(
     rt: &impl Print,
-    what: &[u8],
+    what: &str,
     made: Written,
     message: &[u32],
 ) -> io::Result<()> {
     match made {
-        Written::Length(n) => {
-            rt.write_all(what)?;
-            println!(rt; ": made {n}")?
-        }
+        Written::Length(n) => println!(rt; "{what}: made {n}")?,
         Written::Refused { number, position } => {
             print_verdict(rt, what, Verdict::Refused { number, position })?
         }
     }
-    print_words(rt, b"  message", message)
+    print_words(rt, "  message", message)
 }
