@@ -12,8 +12,8 @@ bounds-numbers-slot c = search (keeping_room, rules)
 pub loop-column-preserved : goal.loop-column-preserved
 loop-column-preserved c =
     elim c.if-is_kept_column.branch [
-        then-is_kept_column w ↦ search (keeping_yes, rules)
-        | else-is_kept_column w ↦ search (keeping_no, rules)
+      | then-is_kept_column w ↦ search (keeping_yes, rules)
+      | else-is_kept_column w ↦ search (keeping_no, rules)
     ]
 
 pub returns : goal.returns

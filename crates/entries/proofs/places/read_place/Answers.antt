@@ -9,8 +9,11 @@ overflow_cast-result c = omega (arith, read_below _ _ _ _ _ _ c.in-Is.is _ c.num
 
 pub overflow_cast-result-in-Is-number_below : goal.overflow_cast-result-in-Is-number_below
 overflow_cast-result-in-Is-number_below c =
-    omega (arith, column_few _ c.args.relations _ _ _ c.number_below.ensures _ _ c.in-Is.is _ c.column_count-columns.ensures _
-    c.number_below-in-Is.ensures _ _ c.in-Is-number_below.is)
+    omega (
+      arith,
+      column_few _ c.args.relations _ _ _ c.number_below.ensures _ _ c.in-Is.is _ c.column_count-columns.ensures _
+          c.number_below-in-Is.ensures _ _ c.in-Is-number_below.is,
+    )
 
 pub returns-in-Not : goal.returns-in-Not
 returns-in-Not c = search (place_1, rules)

@@ -15,8 +15,11 @@ line_of-line-requires c =
 
 pub overflow_add-spent : goal.overflow_add-spent
 overflow_add-spent c =
-    omega (arith, cost_few c.args.costs c.args.envelope c.args.local c.requires.0 _ _ _ _ _ c.loop-i.invariant.spending
-    c.loop-i-test.true _ (ap (λ (x : Line). x.cost) c.line_of-line.ensures))
+    omega (
+      arith,
+      cost_few c.args.costs c.args.envelope c.args.local c.requires.0 _ _ _ _ _ c.loop-i.invariant.spending
+          c.loop-i-test.true _ (ap (λ (x : Line). x.cost) c.line_of-line.ensures),
+    )
 
 pub after_step-now-requires : goal.after_step-now-requires
 after_step-now-requires c = search (rows_low, counts_low, step_few, rules)
@@ -30,8 +33,11 @@ assembly_at-assembly-requires c =
 
 pub overflow_add-result : goal.overflow_add-result
 overflow_add-result c =
-    omega (arith, assembly_small c.args.costs c.args.envelope c.args.local c.requires.0 _ _ _ _ _ _ c.loop-i.invariant _ _
-    c.assembly_at-assembly.ensures)
+    omega (
+      arith,
+      assembly_small c.args.costs c.args.envelope c.args.local c.requires.0 _ _ _ _ _ _ c.loop-i.invariant _ _
+          c.assembly_at-assembly.ensures,
+    )
 
 pub returns : goal.returns
 returns c = search (estimated_through, rules)

@@ -7,8 +7,8 @@ use Rattle.paths.proofs.labels.relabelled.Goals.{else-out-i, then-out-i}
 pub loop-i-preserved : goal.loop-i-preserved
 loop-i-preserved c =
     elim c.if-out-i.branch [
-        then-out-i w ↦ search (relabel_hit, rules)
-        | else-out-i w ↦ search (relabel_miss, rules)
+      | then-out-i w ↦ search (relabel_hit, rules)
+      | else-out-i w ↦ search (relabel_miss, rules)
     ]
 
 pub returns : goal.returns

@@ -12,8 +12,8 @@ bounds-all-slot c = search (listing_room, rules)
 pub loop-k-preserved : goal.loop-k-preserved
 loop-k-preserved c =
     elim c.if-legal_by.branch [
-        then-legal_by w ↦ search (listing_yes, rules)
-        | else-legal_by w ↦ search (listing_no, rules)
+      | then-legal_by w ↦ search (listing_yes, rules)
+      | else-legal_by w ↦ search (listing_no, rules)
     ]
 
 pub returns : goal.returns

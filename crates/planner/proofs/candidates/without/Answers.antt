@@ -12,6 +12,6 @@ bounds-all-slot c = search (removing_room, rules)
 pub loop-i-preserved : goal.loop-i-preserved
 loop-i-preserved c =
     elim c.if-not-same_step.branch [
-        then-not-same_step w ↦ search (removing_yes, rules)
-        | else-not-same_step w ↦ search (removing_no, rules)
+      | then-not-same_step w ↦ search (removing_yes, rules)
+      | else-not-same_step w ↦ search (removing_no, rules)
     ]

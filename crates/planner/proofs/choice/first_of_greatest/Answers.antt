@@ -10,7 +10,7 @@ pub loop-i-preserved : goal.loop-i-preserved
 loop-i-preserved c = let a = c.args in let l = c.loop-i in let f = c.requires.0 in
     elim c.if-most-more.branch [
       | then-most-more w ↦ seeking_more (gain (kind_of a.costs a.envelope) a.profile) _ a.n 156 f (search rules) no_step l.i
-      l.best l.most l.invariant (search rules) _ c.gain-more.ensures w.if-most-more.true _ _ w.best-is w.most-is
+          l.best l.most l.invariant (search rules) _ c.gain-more.ensures w.if-most-more.true _ _ w.best-is w.most-is
       | else-most-more w ↦ seeking_less (gain (kind_of a.costs a.envelope) a.profile) _ a.n 156 f (search rules) no_step l.i
-      l.best l.most l.invariant (search rules) _ c.gain-more.ensures w.if-most-more.false _ _ w.best-is w.most-is
+          l.best l.most l.invariant (search rules) _ c.gain-more.ensures w.if-most-more.false _ _ w.best-is w.most-is
     ]

@@ -18,12 +18,12 @@ estimated-anew-requires c = search (shorter_acceptable, rules)
 pub loop-i-preserved : goal.loop-i-preserved
 loop-i-preserved c =
     elim c.if-anew-total.branch [
-        then-anew-total w ↦ dropping_yes c.args.costs c.args.envelope c.args.program c.requires.1 c.args.order c.args.n _ _
-            _ c.loop-i.invariant _ c.but_for-fewer.ensures _ c.steps_at-shorter.ensures _ c.estimated-anew.ensures
-            c.loop-i-test.true _ _ w.if-anew-total.true w.kept-is w.total-is
-        | else-anew-total w ↦ dropping_no c.args.costs c.args.envelope c.args.program c.requires.1 c.args.order c.args.n _ _
-            _ c.loop-i.invariant _ c.but_for-fewer.ensures _ c.steps_at-shorter.ensures _ c.estimated-anew.ensures
-            c.loop-i-test.true _ _ w.if-anew-total.false w.kept-is w.total-is
+      | then-anew-total w ↦ dropping_yes c.args.costs c.args.envelope c.args.program c.requires.1 c.args.order c.args.n _ _
+          _ c.loop-i.invariant _ c.but_for-fewer.ensures _ c.steps_at-shorter.ensures _ c.estimated-anew.ensures
+          c.loop-i-test.true _ _ w.if-anew-total.true w.kept-is w.total-is
+      | else-anew-total w ↦ dropping_no c.args.costs c.args.envelope c.args.program c.requires.1 c.args.order c.args.n _ _
+          _ c.loop-i.invariant _ c.but_for-fewer.ensures _ c.steps_at-shorter.ensures _ c.estimated-anew.ensures
+          c.loop-i-test.true _ _ w.if-anew-total.false w.kept-is w.total-is
     ]
 
 pub steps_at-requires : goal.steps_at-requires

@@ -5,9 +5,11 @@ pub site_for-requires : goal.site_for-requires
 site_for-requires c = greedy_sited c.args.costs c.args.envelope c.args.local c.requires _ c.greedy_steps-greedy.ensures
 
 pub drops-requires : goal.drops-requires
-drops-requires c =
-    (c.requires, greedy_acceptable c.args.costs c.args.envelope c.args.local c.requires _ c.greedy_steps-greedy.ensures _
-    c.site_for.ensures)
+drops-requires c = (
+  c.requires,
+  greedy_acceptable c.args.costs c.args.envelope c.args.local c.requires _ c.greedy_steps-greedy.ensures _
+      c.site_for.ensures,
+)
 
 pub returns : goal.returns
 returns c =

@@ -9,8 +9,8 @@ loop-site-init c = search (siting_start, rules)
 pub loop-site-preserved : goal.loop-site-preserved
 loop-site-preserved c =
     elim c.if-cost-least.branch [
-        then-cost-least w ↦ search (siting_take, rules)
-        | else-cost-least w ↦ search (siting_stay, rules)
+      | then-cost-least w ↦ search (siting_take, rules)
+      | else-cost-least w ↦ search (siting_stay, rules)
     ]
 
 pub returns : goal.returns

@@ -11,17 +11,26 @@ use Rattle.semijoin.proofs.local.breaks_some_selection.Goals as goal
 pub returns-then-breaks_selection : goal.returns-then-breaks_selection
 returns-then-breaks_selection c =
     let a = c.args in
-    search (used_found (breaks_selection (get_or (rows_over a.extent a.tables.now) a.row [])) (selected 0 0) a.all 96 a.n (omega
-    arith), rules)
+    search (
+      used_found (breaks_selection (get_or (rows_over a.extent a.tables.now) a.row [])) (selected 0 0) a.all 96 a.n (omega
+          arith),
+      rules,
+    )
 
 pub loop-i-preserved : goal.loop-i-preserved
 loop-i-preserved c =
     let a = c.args in
-    search (used_passed (breaks_selection (get_or (rows_over a.extent a.tables.now) a.row [])) (selected 0 0) a.all 96 a.n
-    (omega arith), rules)
+    search (
+      used_passed (breaks_selection (get_or (rows_over a.extent a.tables.now) a.row [])) (selected 0 0) a.all 96 a.n
+          (omega arith),
+      rules,
+    )
 
 pub returns : goal.returns
 returns c =
     let a = c.args in
-    search (used_none (breaks_selection (get_or (rows_over a.extent a.tables.now) a.row [])) (selected 0 0) a.all 96 a.n (omega
-    arith), rules)
+    search (
+      used_none (breaks_selection (get_or (rows_over a.extent a.tables.now) a.row [])) (selected 0 0) a.all 96 a.n (omega
+          arith),
+      rules,
+    )

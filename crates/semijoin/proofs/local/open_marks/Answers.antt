@@ -5,10 +5,13 @@ use Rattle.semijoin.proofs.CallCodeLaws.{open_within, open_envelope, open_refuse
 use Rattle.semijoin.proofs.local.open_marks.Goals as goal
 
 pub open_all-requires : goal.open_all-requires
-open_all-requires c =
-    (open_within c.args.envelope c.args.tables.now (λ r. get_or c.args.here r false) c.args.marks.now _
-    c.check_envelope-read.ensures c.in-Taken.is, marks_shaped _ c.args.tables.now _ _ c.in-Taken-found.is
-    c.judge_marks-found.ensures, marks_room _ c.args.tables.now _ _ c.in-Taken-found.is c.judge_marks-found.ensures)
+open_all-requires c = (
+  open_within c.args.envelope c.args.tables.now (λ r. get_or c.args.here r false) c.args.marks.now _
+      c.check_envelope-read.ensures c.in-Taken.is,
+  marks_shaped _ c.args.tables.now _ _ c.in-Taken-found.is
+      c.judge_marks-found.ensures,
+  marks_room _ c.args.tables.now _ _ c.in-Taken-found.is c.judge_marks-found.ensures,
+)
 
 pub returns-in-Refused : goal.returns-in-Refused
 returns-in-Refused c =

@@ -8,10 +8,16 @@ pub open_all-requires : goal.open_all-requires
 open_all-requires c = search (marks_shaped, marks_room, rules)
 
 pub take_steps-requires : goal.take_steps-requires
-take_steps-requires c =
-    (marks_shaped c.args.envelope c.args.tables.now _ _ c.in-Taken.is c.judge_marks-verdict.ensures, omega (arith, marks_room
-    c.args.envelope c.args.tables.now _ _ c.in-Taken.is c.judge_marks-verdict.ensures), legal_used _ c.args.program
-    c.requires.1)
+take_steps-requires c = (
+  marks_shaped c.args.envelope c.args.tables.now _ _ c.in-Taken.is c.judge_marks-verdict.ensures,
+  omega (
+    arith,
+    marks_room
+        c.args.envelope c.args.tables.now _ _ c.in-Taken.is c.judge_marks-verdict.ensures,
+  ),
+  legal_used _ c.args.program
+      c.requires.1,
+)
 
 pub returns-in-Refused : goal.returns-in-Refused
 returns-in-Refused c =

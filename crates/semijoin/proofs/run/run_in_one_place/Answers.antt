@@ -2,9 +2,10 @@ use Rattle.semijoin.proofs.RunCodeLaws.{run_papers, run_good, run_within, run_le
 use Rattle.semijoin.proofs.run.run_in_one_place.Goals as goal
 
 pub run_checked-requires : goal.run_checked-requires
-run_checked-requires c =
-    (run_within c.args.envelope c.args.program c.args.tables.now c.args.marks.now _ c.check_papers-read.ensures c.in-Taken.is,
-    run_legal c.args.envelope c.args.program c.args.tables.now c.args.marks.now _ c.check_papers-read.ensures c.in-Taken.is)
+run_checked-requires c = (
+  run_within c.args.envelope c.args.program c.args.tables.now c.args.marks.now _ c.check_papers-read.ensures c.in-Taken.is,
+  run_legal c.args.envelope c.args.program c.args.tables.now c.args.marks.now _ c.check_papers-read.ensures c.in-Taken.is,
+)
 
 pub returns-in-Refused : goal.returns-in-Refused
 returns-in-Refused c =

@@ -6,8 +6,11 @@ use Rattle.semijoin.proofs.run.take_step.Goals as goal
 
 pub slice_bounds-values-end : goal.slice_bounds-values-end
 slice_bounds-values-end c =
-    omega (arith, step_fits c.args.envelope c.args.tables.now c.args.marks.now _ 4096 (omega arith) c.requires.0 c.requires.1 _
-    c.values_into-gathered.ensures.0 (search rules) _ c.values_into-gathered.ensures.1 _ c.in-Length.is)
+    omega (
+      arith,
+      step_fits c.args.envelope c.args.tables.now c.args.marks.now _ 4096 (omega arith) c.requires.0 c.requires.1 _
+          c.values_into-gathered.ensures.0 (search rules) _ c.values_into-gathered.ensures.1 _ c.in-Length.is,
+    )
 
 pub slice_bounds-reduce-end : goal.slice_bounds-reduce-end
 slice_bounds-reduce-end c =
@@ -15,10 +18,14 @@ slice_bounds-reduce-end c =
     c.values_into-gathered.ensures.0 (search rules) _ c.values_into-gathered.ensures.1 _ c.in-Length.is
 
 pub reduce-requires : goal.reduce-requires
-reduce-requires c =
-    (c.requires.0, c.requires.1, search rules, step_rises c.args.envelope c.args.tables.now c.args.marks.now _ 4096 (omega
-    arith) c.requires.0 c.requires.1 _ c.values_into-gathered.ensures.0 (search rules) _ c.values_into-gathered.ensures.1 _
-    c.in-Length.is)
+reduce-requires c = (
+  c.requires.0,
+  c.requires.1,
+  search rules,
+  step_rises c.args.envelope c.args.tables.now c.args.marks.now _ 4096 (omega
+      arith) c.requires.0 c.requires.1 _ c.values_into-gathered.ensures.0 (search rules) _ c.values_into-gathered.ensures.1 _
+      c.in-Length.is,
+)
 
 pub returns-in-Refused : goal.returns-in-Refused
 returns-in-Refused c =

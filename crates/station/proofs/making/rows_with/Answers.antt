@@ -5,9 +5,12 @@ pub returns-then-relation-gt7 : goal.returns-then-relation-gt7
 returns-then-relation-gt7 c = rows_nowhere _ _ _ _ _ _ c.if-relation-gt7.true
 
 pub put_row_message-requires : goal.put_row_message-requires
-put_row_message-requires c =
-    (c.requires.shape, c.requires.room, rows_here _ _ _ _ c.args.end.applied _ c.is_at-ours.ensures _ _
-    c.judge_sending-verdict.ensures c.in-Taken.is)
+put_row_message-requires c = (
+  c.requires.shape,
+  c.requires.room,
+  rows_here _ _ _ _ c.args.end.applied _ c.is_at-ours.ensures _ _
+      c.judge_sending-verdict.ensures c.in-Taken.is,
+)
 
 pub returns-in-Refused : goal.returns-in-Refused
 returns-in-Refused c =

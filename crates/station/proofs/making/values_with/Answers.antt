@@ -4,15 +4,21 @@ use Rattle.station.proofs.making.values_with.Goals as goal
 
 pub overflow_cast-count : goal.overflow_cast-count
 overflow_cast-count c =
-    omega (arith, values_few _ c.args.end _ _ _ _ c.requires _ c.step_of-named.ensures _ c.sends_step-ours.ensures _
-    c.judge_sending-verdict.ensures c.in-Taken.is _ _ c.values_into-gathered.ensures.0 c.values_into-gathered.ensures.1 _
-    c.in-Length.is)
+    omega (
+      arith,
+      values_few _ c.args.end _ _ _ _ c.requires _ c.step_of-named.ensures _ c.sends_step-ours.ensures _
+          c.judge_sending-verdict.ensures c.in-Taken.is _ _ c.values_into-gathered.ensures.0 c.values_into-gathered.ensures.1 _
+          c.in-Length.is,
+    )
 
 pub overflow_add-result : goal.overflow_add-result
 overflow_add-result c =
-    omega (arith, values_few _ c.args.end _ _ _ _ c.requires _ c.step_of-named.ensures _ c.sends_step-ours.ensures _
-    c.judge_sending-verdict.ensures c.in-Taken.is _ _ c.values_into-gathered.ensures.0 c.values_into-gathered.ensures.1 _
-    c.in-Length.is)
+    omega (
+      arith,
+      values_few _ c.args.end _ _ _ _ c.requires _ c.step_of-named.ensures _ c.sends_step-ours.ensures _
+          c.judge_sending-verdict.ensures c.in-Taken.is _ _ c.values_into-gathered.ensures.0 c.values_into-gathered.ensures.1 _
+          c.in-Length.is,
+    )
 
 pub returns-in-Refused : goal.returns-in-Refused
 returns-in-Refused c =

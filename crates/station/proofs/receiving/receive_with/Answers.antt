@@ -9,9 +9,11 @@ returns-then-message-end c =
     receive_other _ _ _ _ _ _ c.if-message-lt-FRONT.false c.if-message-end.true _ c.refused-then-message-end.ensures
 
 pub take_values-requires : goal.take_values-requires
-take_values-requires c =
-    (c.requires, spoken_step _ _ _ _ c.speaks_of-about.ensures _ c.step_count-steps.ensures _ c.in-Step.is,
-    c.if-message-lt-FRONT.false)
+take_values-requires c = (
+  c.requires,
+  spoken_step _ _ _ _ c.speaks_of-about.ensures _ c.step_count-steps.ensures _ c.in-Step.is,
+  c.if-message-lt-FRONT.false,
+)
 
 pub take_rows-requires : goal.take_rows-requires
 take_rows-requires c = spoken_rows _ _ _ _ c.speaks_of-about.ensures _ c.in_use-relations.ensures _ c.in-Rows.is

@@ -24,8 +24,11 @@ returns-then-not-is_next c =
 
 pub overflow_add-done : goal.overflow_add-done
 overflow_add-done c =
-    omega (arith, values_more _ c.requires.0.papers _ c.requires.1 _ c.step_of-step.ensures _ _ c.missing_of-missing.ensures _
-    c.is_next.ensures (not_from_true _ c.if-not-is_next.false))
+    omega (
+      arith,
+      values_more _ c.requires.0.papers _ c.requires.1 _ c.step_of-step.ensures _ _ c.missing_of-missing.ensures _
+          c.is_next.ensures (not_from_true _ c.if-not-is_next.false),
+    )
 
 pub applied_to-requires : goal.applied_to-requires
 applied_to-requires c = values_eight _ _ _ _ c.is_at.ensures (not_from_true _ c.if-not-is_at.false)

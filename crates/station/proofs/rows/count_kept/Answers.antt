@@ -14,6 +14,6 @@ overflow_add-n c = omega (arith, counting_most _ _ _ _ c.loop-row.invariant)
 pub loop-row-preserved : goal.loop-row-preserved
 loop-row-preserved c =
     elim c.if-is_kept.branch [
-        then-is_kept w ↦ search (kept_counted, rules)
-        | else-is_kept w ↦ search (kept_passed, rules)
+      | then-is_kept w ↦ search (kept_counted, rules)
+      | else-is_kept w ↦ search (kept_passed, rules)
     ]

@@ -4,13 +4,19 @@ use Rattle.station.proofs.rows.put_row_message.Goals as goal
 
 pub overflow_mul-length : goal.overflow_mul-length
 overflow_mul-length c =
-    omega (arith, message_product _ _ c.args.marks.now _ c.requires.0 c.requires.1 c.requires.2 c.args.run c.args.message.now _
-    c.extent_of-extent.ensures _ c.kept_columns-columns.ensures _ c.count_kept-count.ensures _ c.in_use-width.ensures)
+    omega (
+      arith,
+      message_product _ _ c.args.marks.now _ c.requires.0 c.requires.1 c.requires.2 c.args.run c.args.message.now _
+          c.extent_of-extent.ensures _ c.kept_columns-columns.ensures _ c.count_kept-count.ensures _ c.in_use-width.ensures,
+    )
 
 pub overflow_add-length : goal.overflow_add-length
 overflow_add-length c =
-    omega (arith, message_product _ _ c.args.marks.now _ c.requires.0 c.requires.1 c.requires.2 c.args.run c.args.message.now _
-    c.extent_of-extent.ensures _ c.kept_columns-columns.ensures _ c.count_kept-count.ensures _ c.in_use-width.ensures)
+    omega (
+      arith,
+      message_product _ _ c.args.marks.now _ c.requires.0 c.requires.1 c.requires.2 c.args.run c.args.message.now _
+          c.extent_of-extent.ensures _ c.kept_columns-columns.ensures _ c.count_kept-count.ensures _ c.in_use-width.ensures,
+    )
 
 pub returns-then-message-length : goal.returns-then-message-length
 returns-then-message-length c =
@@ -20,8 +26,11 @@ returns-then-message-length c =
 
 pub overflow_cast-count : goal.overflow_cast-count
 overflow_cast-count c =
-    omega (arith, message_few _ _ c.args.marks.now _ c.requires.0 c.requires.1 c.requires.2 c.args.run c.args.message.now _
-    c.extent_of-extent.ensures _ c.kept_columns-columns.ensures _ c.count_kept-count.ensures)
+    omega (
+      arith,
+      message_few _ _ c.args.marks.now _ c.requires.0 c.requires.1 c.requires.2 c.args.run c.args.message.now _
+          c.extent_of-extent.ensures _ c.kept_columns-columns.ensures _ c.count_kept-count.ensures,
+    )
 
 pub returns : goal.returns
 returns c =

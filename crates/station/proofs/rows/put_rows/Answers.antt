@@ -12,13 +12,16 @@ put_row-requires c = search (shipping_room, rules)
 
 pub overflow_add-at : goal.overflow_add-at
 overflow_add-at c =
-    omega (arith, shipping_fits _ _ _ _ _ _ _ _ _ c.loop-row.invariant c.loop-row-test.true _ c.is_kept-kept.ensures
-    c.if-kept.true c.requires _ c.in_use-width.ensures (omega arith))
+    omega (
+      arith,
+      shipping_fits _ _ _ _ _ _ _ _ _ c.loop-row.invariant c.loop-row-test.true _ c.is_kept-kept.ensures
+          c.if-kept.true c.requires _ c.in_use-width.ensures (omega arith),
+    )
 
 pub loop-row-preserved : goal.loop-row-preserved
 loop-row-preserved c =
     elim c.if-kept.branch [
-        then-kept w ↦ shipping_yes _ _ _ _ _ _ _ _ _ c.loop-row.invariant c.loop-row-test.true _ c.is_kept-kept.ensures
-            w.if-kept.true _ _ w.message-is w.put_row.ensures _ _ c.in_use-width.ensures (omega arith) w.at-is
-        | else-kept w ↦ search (shipping_no, rules)
+      | then-kept w ↦ shipping_yes _ _ _ _ _ _ _ _ _ c.loop-row.invariant c.loop-row-test.true _ c.is_kept-kept.ensures
+          w.if-kept.true _ _ w.message-is w.put_row.ensures _ _ c.in_use-width.ensures (omega arith) w.at-is
+      | else-kept w ↦ search (shipping_no, rules)
     ]

@@ -8,8 +8,11 @@ loop-i-init c = (omega arith, adding_start _ _ _ c.in_use-word.ensures)
 
 pub overflow_add-word : goal.overflow_add-word
 overflow_add-word c =
-    omega (arith, words_fit_in _ _ c.count_in-rows.result c.columns_in-columns.result c.columns_in-columns.ensures (omega
-    arith))
+    omega (
+      arith,
+      words_fit_in _ _ c.count_in-rows.result c.columns_in-columns.result c.columns_in-columns.ensures (omega
+          arith),
+    )
 
 pub loop-i-preserved : goal.loop-i-preserved
 loop-i-preserved c = search (adding_more, rules)
