@@ -87,6 +87,10 @@ def plan():
         for name in declared(text):
             homes[name].append(path)
         kit.update(word for word, _ in imports(text, False))
+        # a name that a file passes on under another
+        for name in re.findall(r" as ([a-z][A-Za-z0-9-]*)[,}]", text):
+            if re.search("[a-z][A-Z]", name):
+                homes[name].append(path)
     taken = collections.defaultdict(set)
     for name in homes:
         taken[snake(name)].add(name)

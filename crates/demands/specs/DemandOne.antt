@@ -4,7 +4,8 @@
 -- refusal leaves; DemandOneCalls says it of boundary's calls. That each number is met is run (crates/cases, crates/refusals,
 -- crates/answers). That every call ends is the language's own guarantee, and that a call is taken or refused is what an outcome is.
 -- docs/CONTRACTS.md has the functions that cannot refuse, and those that read one field or entry of a paper.
-use Rattle.demands.specs.Words.{ℕ, ◌≡◌, Bool, List, [], ◌∷◌, List-as-Memᴰ, ◌⊎◌, length, Outcome, bad, judgement, Refused, Unjudged, Place, Envelope, Fits}
+use Rattle.std.specs.Prelude.{ℕ, ◌≡◌, Bool, List, [], ◌∷◌, ◌⊎◌, length}
+use Rattle.demands.specs.Words.{List-as-Memᴰ, Outcome, bad, judgement, Refused, Unjudged, Place, Envelope, Fits}
 use Rattle.demands.specs.Words.{Step, Program, ProgramFits, Papers, read_envelope, check_envelope, write_envelope_of, legality_of, selections_read, equalities_read}
 use Rattle.demands.specs.Words.{read_program, check_program, write_program_of, papers_of, estimate_of, plan_of, marks_tests, column_tests, values_outcome}
 use Rattle.demands.specs.Words.{written_from, written_in, value_of, open_outcome, reduce_outcome, run_outcome, End, sound_end, usable, open_of, opened_marks, make_values_of, make_rows_of}

@@ -2,7 +2,8 @@
 -- and every call ends. A refusal leaves the row marks, the store and every output as they were before the call." Of each of boundary's
 -- eleven calls, in the order of include/legestran.h but for the estimate. By its contract a call answers the outcome o as one number, and leaves
 -- in each lent slice what stands behind Stays. Papers come as bytes; once read, they are not refused again by the check of structs.
-use Rattle.demands.specs.Words.{ℕ, List, [], ◌∷◌, length, bad, Bytes, value_of, written_in, read_envelope, papers_in, end_in, plan_from, estimate_from}
+use Rattle.std.specs.Prelude.{ℕ, List, [], ◌∷◌, length}
+use Rattle.demands.specs.Words.{bad, Bytes, value_of, written_in, read_envelope, papers_in, end_in, plan_from, estimate_from}
 use Rattle.demands.specs.Words.{run_from, answer_from, open_from, opened_marks, opened_state, make_values_from, make_rows_from, receive_from, received_marks}
 use Rattle.demands.specs.Words.{received_store, received_state, answer_end_from}
 use Rattle.demands.specs.DemandOne.{envelope_numbers, By, After, Stays}

@@ -1,7 +1,8 @@
 -- "Then the answering station, lent enough room, gives the same answer rows in the same order as the envelope on the original
 -- tables, once every table's row message has been delivered to it, and until then it says which table is missing. No row
 -- arrives that the program, run in order in one place, would have removed." What is promised of a state that a crew comes to.
-use Rattle.demands.specs.Words.{ℕ, ◌+◌, ◌≤◌, ◌<◌, ◌≡◌, true, false, List, List-as-Memᴰ, length, take, replicate, good, bad, relation_count, is_at, Envelope, answer_words, steps_of, Program}
+use Rattle.std.specs.Prelude.{ℕ, ◌+◌, ◌≤◌, ◌<◌, ◌≡◌, true, false, List, length, take, replicate}
+use Rattle.demands.specs.Words.{List-as-Memᴰ, good, bad, relation_count, is_at, Envelope, answer_words, steps_of, Program}
 use Rattle.demands.specs.Words.{row_count, values_of, opened_in, stepped_all, run_marks, SameRows, FewerRows, FewerValues, Covers, Holds, step_count, step_of, steps_before, applied_of, has_arrived}
 use Rattle.demands.specs.Words.{value_message, row_message, second_of, sent_rows, Held, held_by, SoundRows, OneOfEach, assembled_outcome}
 use Rattle.demands.specs.Link.{Crew, Allowed, State, start, Event, Possible, lent_store, after, after_events, Follows}

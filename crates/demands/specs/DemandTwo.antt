@@ -7,9 +7,10 @@
 -- tables, or that apply the first step and skip the rest": run_folds and step say which rows are kept, and Upper and
 -- Answers of DemandThree that no other is sent or held. "An invented cost or benefit": estimate, and PlanKept for the plan.
 -- proofs/Excluded.antt has refusing everything, one plan, one answer and reducing nothing as laws.
-use Rattle.demands.specs.Words.{ℕ, ◌+◌, ◌≤◌, ◌<◌, ◌≡◌, true, List, map, List-as-Memᴰ, ◌↔◌, length, take, Every, filter, combinations, sum, Bytes, good, Taken, clauses_of, targets_of, Envelope, Within, tidy, Fits}
+use Rattle.std.specs.Prelude.{ℕ, ◌+◌, ◌≤◌, ◌<◌, ◌≡◌, true, List, map, ◌↔◌, length, take}
+use Rattle.demands.specs.Words.{List-as-Memᴰ, Every, filter, combinations, sum, Bytes, good, Taken, clauses_of, targets_of, Envelope, Within, tidy, Fits}
 use Rattle.demands.specs.Words.{read_envelope, check_envelope, envelope_bytes, column, PathBetween, edges, is_place, legal, legal_steps, Row, meets_all, target_row, tables_of, answer_rows, answer_words, Step}
-use Rattle.demands.specs.Words.{steps_of, read_program, check_program, program_bytes, Acceptable, tidy_program, ProgramFits, Program, local_profile, plain_costs, assembly_at, profileAfter, kind_of, lines_of, costs_in}
+use Rattle.demands.specs.Words.{steps_of, read_program, check_program, program_bytes, Acceptable, tidy_program, ProgramFits, Program, local_profile, plain_costs, assembly_at, profile_after, kind_of, lines_of, costs_in}
 use Rattle.demands.specs.Words.{papers_of, Papers, estimate_of, Estimate, plan_of, PlanKept, count_in, row_count, answer_kept, words_of_rows, shaped, passes, Passing, opened_in, stepped, stepped_all, run_marks, run_outcome, row_of, word_of, kept_at, answer_outcome}
 
 -- "R<A=B]S: R and S different, R.A and S.B on a path": along clauses, either way, from column to column or constant
@@ -23,7 +24,7 @@ pub record OnPath (e : Envelope) (s : Step) : Type 0 where
 pub record EstimateKept (e : Envelope) (p : Program) (x : Estimate) : Type 0 where
   pub taken : x.verdict ≡ Taken
   pub lines : take x.count x.lines ≡ lines_of plain_costs e (local_profile e) (steps_of p)
-  pub assembly : x.assembly ≡ assembly_at plain_costs e (profileAfter (kind_of plain_costs e) (local_profile e) (steps_of p)) p.site
+  pub assembly : x.assembly ≡ assembly_at plain_costs e (profile_after (kind_of plain_costs e) (local_profile e) (steps_of p)) p.site
   pub total : x.total ≡ sum (costs_in (take x.count x.lines)) + x.assembly
 
 pub record DemandTwo : Type 0 where

@@ -3,7 +3,8 @@
 -- them, the link losing, repeating, delaying or reordering messages but never altering or inventing them, and no message of
 -- any other run .. bearing this run's number." A crew, what can happen to it, and what stands afterwards, by the calls' own
 -- definitions.
-use Rattle.demands.specs.Words.{ℕ, ◌≤◌, ◌≡◌, true, List, [], ◌∷◌, ◌++◌, List-as-Memᴰ, ◌⊎◌, length, nat_eq, pick, Outcome, good, bad, is_at, Envelope, Fits, papers_of}
+use Rattle.std.specs.Prelude.{ℕ, ◌≤◌, ◌≡◌, true, List, [], ◌∷◌, ◌++◌, ◌⊎◌, length, nat_eq}
+use Rattle.demands.specs.Words.{List-as-Memᴰ, pick, Outcome, good, bad, is_at, Envelope, Fits, papers_of}
 use Rattle.demands.specs.Words.{Program, Papers, row_count, shaped, SameRows, leaves, value_of, Marked, no_end, open_of, opened_marks, make_values_of, make_rows_of, Held, receive_of, held_by}
 
 -- the papers that every end is opened with, and the same as they read back; the run's number; the tables of all stations

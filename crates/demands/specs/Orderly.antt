@@ -1,7 +1,8 @@
 -- Something happens: the run in which every message made is delivered, in program order. Every site opens its end. Each step's value
 -- message is made where its right relation is and comes to where its left relation is; then each relation's row message is made
 -- where it is and comes to the assembly site. So no station that refuses everything does what this says beside demand 3.
-use Rattle.demands.specs.Words.{ℕ, ◌≤◌, ◌<◌, ◌≡◌, true, List, [], ◌∷◌, ◌++◌, slice_index_or, replicate, below, Outcome, good, relation_count, site_of, step_count, step_of, has_arrived, make_values_of, make_rows_of, receive_of}
+use Rattle.std.specs.Prelude.{ℕ, ◌≤◌, ◌<◌, ◌≡◌, true, List, [], ◌∷◌, ◌++◌, replicate, slice_index_or}
+use Rattle.demands.specs.Words.{below, Outcome, good, relation_count, site_of, step_count, step_of, has_arrived, make_values_of, make_rows_of, receive_of}
 use Rattle.demands.specs.Link.{Crew, Allowed, State, opening_at, start, Event, after, after_events, Follows, lent_store}
 use Rattle.demands.specs.Link.Event.{makes_values, makes_rows, comes}
 

@@ -1,5 +1,4 @@
 -- The words that the statements are made of, floor by floor, each behind the file that defines it.
-pub use Rattle.std.specs.Prelude.{ℕ, ◌+◌, ◌≤◌, ◌<◌, ◌≡◌, Bool, true, false, List, [], ◌∷◌, ◌++◌, map, ◌⊎◌, ◌↔◌, length, take, replicate, slice_index_or, nat_eq}
 pub use mathlib.Core.{List.Memᴰ as List-as-Memᴰ}
 pub use Rattle.ground.specs.{Tests.pick, Lists.Every, Lists.filter, Lists.combinations, Lists.sum, Lists.below, Bytes.Bytes, Outcome.Outcome, Outcome.leaves, Outcome.value_of}
 pub use Rattle.ground.specs.{Outcome.Outcome.good, Outcome.Outcome.bad, Refusing.judgement, declared.Verdict.TheVariants.Taken, declared.Verdict.TheVariants.Refused}
@@ -14,7 +13,7 @@ pub use Rattle.paths.specs.{Meaning.answer_words, declared.steps.Step.Step, decl
 pub use Rattle.papers.specs.{Programs.steps_of, Programs.read_program, Programs.check_program, Programs.program_bytes, Programs.write_program_of}
 pub use Rattle.papers.specs.{Programs.Acceptable, Programs.tidy_program, Checks.papers_of, Fits.ProgramFits, declared.programs.Program.Program}
 pub use Rattle.papers.specs.{declared.checks.Papers.Papers}
-pub use Rattle.estimates.specs.{Profile.local_profile, Costs.plain_costs, Costs.assembly_at, Kind.after_all as profileAfter, Estimate.kind_of, Estimate.lines_of}
+pub use Rattle.estimates.specs.{Profile.local_profile, Costs.plain_costs, Costs.assembly_at, Kind.after_all as profile_after, Estimate.kind_of, Estimate.lines_of}
 pub use Rattle.estimates.specs.{Estimate.costs_in, Estimate.estimate_of, declared.lines.Estimate.Estimate}
 pub use Rattle.planner.specs.{Plan.plan_of, Promise.PlanKept}
 pub use Rattle.tables.specs.{Offsets.count_in, Offsets.row_count, Shape.shaped, Shape.marks_tests, Shape.column_tests, Values.values_of, Values.values_outcome}
