@@ -7,7 +7,7 @@ use contents::envelope::Envelope;
 use ends::ends::End;
 use entries::clauses::{Clause, ClauseKind};
 use entries::places::Place;
-use fields::puts::Written;
+use ground::refusals::Refusal;
 use papers::programs::Program;
 use paths::steps::Step;
 use std::io;
@@ -26,25 +26,24 @@ const COUPONS: [u32; 8] = [3, 0, 11, 20, 12, 20, 13, 21];
 
 const WEIGHTS: [u32; 14] = [0, 4, 11, 20, 5, 12, 20, 7, 12, 20, 7, 14, 22, 3];
 
-fn print_word(rt: &impl Print, value: u32) -> io::Result<()> {
-    rt.print(value)
-}
-
+// A line of numbers.
 fn print_words(rt: &impl Print, what: &str, words: &[u32]) -> io::Result<()> {
     print!(rt; "{what}")?;
     for word in words {
-        print!(rt; " ")?;
-        print_word(rt, *word)?;
+        print!(rt; " {word}")?;
     }
     println!(rt;)
 }
 
-fn print_answered(rt: &impl Print, what: &str, answered: Written, out: &[u32]) -> io::Result<()> {
+fn print_answered(
+    rt: &impl Print,
+    what: &str,
+    answered: Result<usize, Refusal>,
+    out: &[u32],
+) -> io::Result<()> {
     match answered {
-        Written::Length(n) => println!(rt; "{what}: {n} words")?,
-        Written::Refused { number, position } => {
-            println!(rt; "{what}: refused {number} {position}")?
-        }
+        Ok(length) => println!(rt; "{what}: {length} words")?,
+        Err(refusal) => println!(rt; "{what}: {refusal}")?,
     }
     print_words(rt, "  out", out)
 }
@@ -55,10 +54,9 @@ fn place(relation: u8, column: u8) -> Place {
 
 // Three domains of 100; COUPON and WEIGH joined on a column; targets COUPON's number and WEIGH's loss.
 fn envelope_on(column: u8) -> Envelope {
-    let read = envelopes::reading::read_envelope(
+    let mut envelope = envelopes::reading::read_envelope(
         b"CPN\x01\x00\x03\x64\x00\x00\x00\x64\x00\x00\x00\x64\x00\x00\x00\x02\x01\x02\x03\x00\x00\x00\x00\x02\x03\x00\x00\x00\x01\x02\x02\x00\x00\x00\x02\x03\x04\x00\x00\x00\x00\x02\x03\x00\x00\x00\x01\x02\x02\x00\x00\x00\x02\x02\x03\x00\x00\x00\x01\x02\x00\x00\x01\x00\x02\x00\x00\x01\x02",
-    );
-    let mut envelope = read.envelope;
+    ).unwrap_or(contents::envelope::no_envelope());
     let clause = Clause {
         kind: ClauseKind::Join {
             left: place(0, column),
@@ -98,49 +96,50 @@ fn asked(rt: &impl Print, what: &str, end: End, store: &[u32]) -> io::Result<()>
     print_answered(rt, what, answered, &out)
 }
 
-// A message that was made, at the end that answers.
-fn delivered(end: End, marks: &mut [u8], store: &mut [u32], made: Written, message: &[u32]) -> End {
+// The end that answers, after a message that was made; as it was, where none was made.
+fn delivered(
+    end: End,
+    marks: &mut [u8],
+    store: &mut [u32],
+    made: Result<usize, Refusal>,
+    message: &[u32],
+) -> End {
     let coupons = COUPONS;
-    match made {
-        Written::Refused {
-            number: _,
-            position: _,
-        } => end,
-        Written::Length(n) => {
-            if message.len() < n {
-                return end;
-            }
-            let received = station::receiving::receive(end, &coupons, marks, store, &message[..n]);
-            received.end
+    let mut after = end;
+    if let Ok(length) = made {
+        if let Some(sent) = message.get(..length) {
+            let _ = station::receiving::receive(&mut after, &coupons, marks, store, sent);
         }
     }
+    after
 }
 
-// The row message of WEIGH, or the values of step 0, made at site 2.
-fn made_there(column: u8, rows: bool, message: &mut [u32]) -> Written {
+// A message made at site 2, by the call that makes it: the number is that of the step, or of the relation.
+fn made_there<F: FnOnce(End, &[u32], &[u8], u32, &mut [u32]) -> Result<usize, Refusal>>(
+    column: u8,
+    make: F,
+    number: u32,
+    message: &mut [u32],
+) -> Result<usize, Refusal>
+    requires { F.IsAlwaysCallable make }
+{
     let weights = WEIGHTS;
     let envelope = envelope_on(column);
     let program = program_on(column);
     let mut marks = [9u8; 4];
-    let opened = station::opening::open(envelope, program, 2, RUN, &weights, &mut marks);
-    let end = opened.end;
-    if rows {
-        station::making::make_rows(end, &weights, &marks, 1, message)
-    } else {
-        station::making::make_values(end, &weights, &marks, 0, message)
-    }
+    let end = station::opening::open(envelope, program, 2, RUN, &weights, &mut marks)?;
+    make(end, &weights, &marks, number, message)
 }
 
 // The end at site 1 with step 0 applied.
-fn reduced(column: u8, marks: &mut [u8], store: &mut [u32]) -> End {
+fn reduced(column: u8, marks: &mut [u8], store: &mut [u32]) -> Result<End, Refusal> {
     let coupons = COUPONS;
     let envelope = envelope_on(column);
     let program = program_on(column);
     let mut message = [9u32; 16];
-    let opened = station::opening::open(envelope, program, 1, RUN, &coupons, marks);
-    let end = opened.end;
-    let values = made_there(column, false, &mut message);
-    delivered(end, marks, store, values, &message)
+    let end = station::opening::open(envelope, program, 1, RUN, &coupons, marks)?;
+    let values = made_there(column, station::making::make_values, 0, &mut message);
+    Ok(delivered(end, marks, store, values, &message))
 }
 
 // With its own rows arrived, then with those of WEIGH.
@@ -153,17 +152,19 @@ fn with_coupons(end: End, marks: &mut [u8], store: &mut [u32]) -> End {
 
 fn with_weights(column: u8, end: End, marks: &mut [u8], store: &mut [u32]) -> End {
     let mut message = [9u32; 16];
-    let rows = made_there(column, true, &mut message);
+    let rows = made_there(column, station::making::make_rows, 1, &mut message);
     delivered(end, marks, store, rows, &message)
 }
 
-fn gathered(rt: &impl Print, column: u8, store: &mut [u32]) -> io::Result<End> {
+fn gathered(rt: &impl Print, column: u8, store: &mut [u32]) -> io::Result<Option<End>> {
     let mut marks = [9u8; 3];
-    let start = reduced(column, &mut marks, store);
+    let Ok(start) = reduced(column, &mut marks, store) else {
+        return Ok(None);
+    };
     asked(rt, "before any rows", start, store)?;
     let first = with_coupons(start, &mut marks, store);
     asked(rt, "without the rows of WEIGH", first, store)?;
-    Ok(with_weights(column, first, &mut marks, store))
+    Ok(Some(with_weights(column, first, &mut marks, store)))
 }
 
 fn with_used(end: End, used: usize) -> End {
@@ -218,16 +219,24 @@ fn refused(rt: &impl Print, end: End, store: &[u32]) -> io::Result<()> {
     print_answered(rt, "with too little room", answered, &out)
 }
 
+// What stands at an end, and the answer asked of it.
+fn at_end(rt: &impl Print, what: &str, column: u8, store: &mut [u32]) -> io::Result<Option<End>> {
+    let gathered = gathered(rt, column, store)?;
+    if let Some(end) = gathered {
+        print_words(rt, "store", store)?;
+        asked(rt, what, end, store)?;
+    }
+    Ok(gathered)
+}
+
 fn main(rt: HostRuntime) -> io::Result<()> {
     on_tables(&rt, "on number, on tables", NUMBER)?;
     on_tables(&rt, "on date, on tables", DATE)?;
     let mut store = [9u32; 20];
-    let end = gathered(&rt, NUMBER, &mut store)?;
-    print_words(&rt, "store", &store)?;
-    asked(&rt, "on number, at an end", end, &store)?;
-    let mut other = [9u32; 20];
-    let last = gathered(&rt, DATE, &mut other)?;
-    print_words(&rt, "store", &other)?;
-    asked(&rt, "on date, at an end", last, &other)?;
-    refused(&rt, end, &store)
+    let end = at_end(&rt, "on number, at an end", NUMBER, &mut store)?;
+    at_end(&rt, "on date, at an end", DATE, &mut [9u32; 20])?;
+    match end {
+        Some(end) => refused(&rt, end, &store),
+        None => Ok(()),
+    }
 }

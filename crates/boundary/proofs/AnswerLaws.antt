@@ -1,11 +1,12 @@
 -- The laws of an answer as one number: it says the number and the value, and each return.
-use mathlib.Core.Path.{◌≡◌, ap}
+use mathlib.Core.Path.{◌≡◌, refl, ap, ◌∙◌}
 use Prim.Native.Nat.{ℕ, ◌+◌, ◌*◌, ◌≤◌, ◌<◌}
 use native.Mathlib.Omega.{arith}
-use Rattle.ground.specs.declared.Verdict.{Verdict}
-use Rattle.ground.specs.declared.Verdict.TheVariants as verdict
-use Rattle.fields.specs.declared.puts.Written.{Written}
-use Rattle.fields.specs.declared.puts.Written.TheVariants as written
+use Rattle.std.specs.Prelude.{Result, Ok, Err}
+use Rattle.ground.specs.Outcome.{Outcome, taken_of, verdict_of}
+use Rattle.ground.specs.Outcome.Outcome.{good, bad}
+use Rattle.ground.specs.Refusals.{number_of}
+use Rattle.ground.specs.declared.refusals.Refusal.{Refusal}
 use Rattle.boundary.specs.Answers.{as_word, answer_number, verdict_number, written_number}
 
 -- ---- the number and the value are in the answer, where the value is a word
@@ -29,22 +30,29 @@ answer_one m n v w e = (omega (arith, e, word_least v, word_least w), omega (ari
 
 -- ---- each return
 
-pub answer_is : (number value w : ℕ) → w ≡ as_word value → number * 4294967296 + w ≡ answer_number number value
-unfolding answer_number
-answer_is number value w e = ap (λ (k : ℕ). number * 4294967296 + k) e
+pub length_number : (r : Result ℕ Refusal) (n w : ℕ) → r ≡ Ok n → w ≡ as_word n → w ≡ written_number r
+unfolding written_number answer_number
+length_number r n w e f = rw e (omega (arith, f))
 
-pub verdict_taken : (v : Verdict) (r : ℕ) → v ≡ verdict.Taken → r ≡ answer_number 0 0 → r ≡ verdict_number v
-unfolding verdict_number
-verdict_taken v r e f = rw e f
+pub refusal_number : (r : Result ℕ Refusal) (x : Refusal) (k w : ℕ) → r ≡ Err x → k ≡ number_of x.reason → w ≡ as_word x.position
+    → k * 4294967296 + w ≡ written_number r
+unfolding written_number answer_number
+refusal_number r x k w e f g = rw (e, f, g) refl
 
-pub verdict_refused : (v : Verdict) (r n p : ℕ) → v ≡ verdict.Refused n p → r ≡ answer_number n p → r ≡ verdict_number v
-unfolding verdict_number
-verdict_refused v r n p e f = rw e f
+module _ {A : Type 0} where
+  pub taken_number : (v : Result A Refusal) (a : A) (r : ℕ) → v ≡ Ok a → r ≡ written_number (Ok 0) → r ≡ verdict_number v
+  unfolding verdict_number written_number
+  taken_number v a r e f = rw e f
 
-pub written_length : (v : Written) (r n : ℕ) → v ≡ written.Length n → r ≡ answer_number 0 n → r ≡ written_number v
-unfolding written_number
-written_length v r n e f = rw e f
+  pub refused_number : (v : Result A Refusal) (x : Refusal) (r : ℕ) → v ≡ Err x → r ≡ written_number (Err x) → r ≡ verdict_number v
+  unfolding verdict_number written_number
+  refused_number v x r e f = rw e f
 
-pub written_refused : (v : Written) (r n p : ℕ) → v ≡ written.Refused n p → r ≡ answer_number n p → r ≡ written_number v
-unfolding written_number
-written_refused v r n p e f = rw e f
+  -- a call that answers its value says by its number what its verdict says
+  pub value_number : (o : Outcome A) (c : Result A Refusal) (r : ℕ) → c ≡ taken_of o → r ≡ verdict_number c → r ≡ verdict_number (verdict_of o)
+  unfolding verdict_number taken_of verdict_of
+  value_number o c r g k = k ∙ ap verdict_number g ∙ go o
+    where
+      go : (o : Outcome A) → verdict_number (taken_of o) ≡ verdict_number (verdict_of o)
+      go (good v p) = refl
+      go (bad n p) = refl

@@ -1,46 +1,41 @@
 -- What all calls share: what is said of a call's outcome is said of what it comes to, which is the refusal of what comes first, or
 -- what comes after.
-use mathlib.Core.Path.{◌≡◌, refl, sym, ap, ◌∙◌}
+use mathlib.Core.Path.{◌≡◌, refl, sym}
 use mathlib.Core.List.{List}
 use Prim.Native.Nat.{ℕ}
-use Rattle.ground.specs.Outcome.{Outcome, next, verdict_of, leaves}
+use Rattle.std.specs.Prelude.{Result, Ok, Err}
+use Rattle.ground.specs.Outcome.{Outcome, next, taken_of, verdict_of, leaves}
 use Rattle.ground.specs.Outcome.Outcome.{good, bad}
-use Rattle.ground.specs.declared.Verdict.TheVariants.{Taken}
-use Rattle.ground.proofs.OutcomeLaws.{never, leaves_refused}
-use Rattle.fields.specs.Puts.{written_of, written_in}
-use Rattle.fields.specs.declared.puts.Written.{Written}
-use Rattle.fields.proofs.PutLaws.{Writes}
-use Rattle.boundary.specs.Answers.{answer_number, written_number}
+use Rattle.ground.specs.declared.refusals.Reason.{Reason}
+use Rattle.ground.specs.declared.refusals.Refusal.{Refusal}
+use Rattle.ground.proofs.OutcomeLaws.{never, value_good, value_bad, leaves_refused}
+use Rattle.fields.proofs.PutLaws.{Writes, writes_bad}
 
-module _ {A B : Type 0} (o : Outcome A) (k : A → ℕ → Outcome B) (Said : Outcome B → Type 0) where
-  pub refused_says : (m u : ℕ) → o ≡ bad m u → Said (bad m u) → Said (next o k)
-  refused_says m u e h = rw e h
+module _ {A B : Type 0} (o : Outcome A) (call : A → Outcome B) (r : Result A Refusal) (e : r ≡ taken_of o) (Said : Outcome B → Type 0) where
+  pub refused_says : (x : Refusal) → r ≡ Err x → Said (bad x.reason x.position) → Said (next o (λ v _. call v))
+  refused_says x g h = rw (value_bad o r x e g) h
 
-  pub taken_says : (a : A) (u : ℕ) → o ≡ good a u → Said (k a u) → Said (next o k)
-  taken_says a u e h = rw e h
+  pub taken_says : (v : A) → r ≡ Ok v → Said (call v) → Said (next o (λ v _. call v))
+  taken_says v g h = let (p, f) = value_good o r v e g in rw f h
 
--- ---- a call that writes: its answer as one number, and the buffer afterwards
+-- ---- a call that writes
 
-abbrev pub Gives : List ℕ → ℕ → List ℕ → Outcome (List ℕ) → Type 0
-Gives out r after o = (r ≡ written_number (written_of o)) × (after ≡ written_in out o)
+module _ {A : Type 0} (o : Outcome A) (call : A → Outcome (List ℕ)) (out : List ℕ) (r : Result A Refusal) (e : r ≡ taken_of o) where
+  pub writes_ends : (x : Refusal) → r ≡ Err x → Writes 0 out (next o (λ v _. call v)) (Err x) out
+  writes_ends x g = refused_says o call r e (λ o. Writes 0 out o (Err x) out) x g (writes_bad 0 out (bad x.reason x.position) x.reason x.position refl)
 
-module _ {A : Type 0} (o : Outcome A) (k : A → ℕ → Outcome (List ℕ)) (out : List ℕ) where
-  pub gives_refused : (m u r : ℕ) → o ≡ bad m u → r ≡ answer_number m u → Gives out r out (next o k)
-  unfolding written_of written_number leaves
-  gives_refused m u r e h = refused_says o k (Gives out r out) m u e (h, refl)
-
-  pub gives_taken : (a : A) (u : ℕ) → o ≡ good a u → (z : Written) (after : List ℕ) (r : ℕ) → Writes 0 out (k a u) z after → r ≡ written_number z
-      → Gives out r after (next o k)
-  gives_taken a u e z after r l h = taken_says o k (Gives out r after) a u e (h ∙ ap written_number l.0, l.1)
+  pub writes_goes : (v : A) → r ≡ Ok v → (z : Result ℕ Refusal) (after : List ℕ) → Writes 0 out (call v) z after
+      → Writes 0 out (next o (λ v _. call v)) z after
+  writes_goes v g z after l = taken_says o call r e (λ o. Writes 0 out o z after) v g l
 
 -- ---- what is left
 
 -- a refusal leaves what came in
-pub leaves_same : {B C : Type 0} (made : B → C) (before : C) (o : Outcome B) (m u : ℕ) → o ≡ bad m u → before ≡ leaves made before o
+pub leaves_same : {B C : Type 0} (made : B → C) (before : C) (o : Outcome B) (m : Reason) (u : ℕ) → o ≡ bad m u → before ≡ leaves made before o
 leaves_same made before o m u found = sym (leaves_refused made before o m u found)
 
 -- what is left of the end that a taken call gives is what the call leaves of it
-pub leaves_taken : {A B C : Type 0} (f : B → C) (made : A → B) (x : B) (before : C) (o : Outcome A) → verdict_of o ≡ Taken
+pub leaves_taken : {A B C : Type 0} (f : B → C) (made : A → B) (x : B) (before : C) (o : Outcome A) → verdict_of o ≡ Ok (tt {0})
     → f (leaves made x o) ≡ leaves (λ (a : A). f (made a)) before o
 unfolding leaves verdict_of
 leaves_taken f made x before (good a u) w = refl

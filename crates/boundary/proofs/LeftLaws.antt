@@ -16,7 +16,7 @@ use Rattle.ground.specs.Outcome.Outcome.{good}
 use Rattle.ground.specs.Refusing.{test}
 use Rattle.ground.proofs.OutcomeLaws.{next_good}
 use Rattle.ground.proofs.RefusingLaws.{judged_good, each_passes}
-use Rattle.fields.specs.Refusals.{beyond_limit, too_short}
+use Rattle.ground.specs.declared.refusals.Reason.TheVariants.{BeyondLimit, TooShort}
 use Rattle.contents.specs.Parts.{relation_count}
 use Rattle.contents.specs.declared.envelope.Envelope.{Envelope}
 use Rattle.envelopes.specs.Envelope.{read_envelope}
@@ -64,7 +64,7 @@ own_papers_lem x fine words n q u h =
     let shaped : good f w ≡ good q u = ((judged_good (marks_tests f.envelope words n) (good f w) q u).0 rest).1 in
     let (g, v, read, counts) = next_good (papers_of x.envelope x.program) _ f w sound in
     let over : good g v ≡ good f w =
-    ((judged_good (test (over_applied g.program (relation_count g.envelope) x.applied) beyond_limit 0 ∷ []) (good g v) f w).0 counts).1 in
+    ((judged_good (test (over_applied g.program (relation_count g.envelope) x.applied) BeyondLimit 0 ∷ []) (good g v) f w).0 counts).1 in
     let whole = sym read ∙ papers_complete (papers_of_end x) fine in
     let first : g ≡ papers_of_end x = cc in
     let second : g ≡ f = cc in
@@ -78,12 +78,12 @@ module _ (e p s : List ℕ) where
       → (19 ≤ length s) × (q : Papers) × (papers_in e p ≡ good q at) × (x ≡ end_of q s)
   unfolding end_in
   end_parts x at h =
-      let (short, rest) = (judged_good (test (ltb (length s) 19) too_short 0 ∷ []) _ x at).0 h in
+      let (short, rest) = (judged_good (test (ltb (length s) 19) TooShort 0 ∷ []) _ x at).0 h in
       let (q, u, read, more) = next_good (papers_in e p) _ x at rest in
-      let made : good (end_of q s) u ≡ good x at = ((judged_good (test (unclear s) beyond_limit 0 ∷ []) (good (end_of q s) u) x at).0 more).1 in
+      let made : good (end_of q s) u ≡ good x at = ((judged_good (test (unclear s) BeyondLimit 0 ∷ []) (good (end_of q s) u) x at).0 more).1 in
       let same : end_of q s ≡ x = cc in
       let place : u ≡ at = cc in
-      (ltb-false _ _ (each_passes (test (ltb (length s) 19) too_short 0 ∷ []) short).0, q, read ∙ ap (good q) place, sym same)
+      (ltb-false _ _ (each_passes (test (ltb (length s) 19) TooShort 0 ∷ []) short).0, q, read ∙ ap (good q) place, sym same)
 
   -- the words of an end with the same papers read as that end
   read_again : 19 ≤ length s → (q : Papers) (at : ℕ) → papers_in e p ≡ good q at → (x : End) → papers_of_end x ≡ q → Sayable x s
@@ -150,8 +150,8 @@ module _ (e p : List ℕ) (all : Bytes e) (each : Bytes p) (s words marks store 
   unfolding receive_from receive_given
   received_read h u taken =
       let (x, at, read, rest) = next_good (end_in e p s) _ h u taken in
-      let (short, received) = (judged_good (test (ltb 4294967295 (length store)) beyond_limit 0 ∷ []) _ h u).0 rest in
-      let small : length store ≤ 4294967295 = ltb-false _ _ (each_passes (test (ltb 4294967295 (length store)) beyond_limit 0 ∷ []) short).0 in
+      let (short, received) = (judged_good (test (ltb 4294967295 (length store)) BeyondLimit 0 ∷ []) _ h u).0 rest in
+      let small : length store ≤ 4294967295 = ltb-false _ _ (each_passes (test (ltb 4294967295 (length store)) BeyondLimit 0 ∷ []) short).0 in
       let (long, q, papers, is) = end_parts e p s x at read in
       let given : receive_of (end_of q s) words marks store m ≡ good h u =
       subst (λ (y : End). receive_of y words marks store m ≡ good h u) is received in
@@ -174,8 +174,8 @@ module _ (e p : List ℕ) (all : Bytes e) (each : Bytes p) (site run : ℕ) (wor
   opened_read m u opened behind =
       let (q, at, papers, rest) = next_good (papers_in e p) _ m u opened in
       let (n, v, start, more) = next_good (open_of q.envelope q.program site run words marks) _ m u rest in
-      let (short, made) = (judged_good (test (ltb (length s) 19) too_short 0 ∷ []) (good n v) m u).0 more in
-      let long : 19 ≤ length s = ltb-false _ _ (each_passes (test (ltb (length s) 19) too_short 0 ∷ []) short).0 in
+      let (short, made) = (judged_good (test (ltb (length s) 19) TooShort 0 ∷ []) (good n v) m u).0 more in
+      let long : 19 ≤ length s = ltb-false _ _ (each_passes (test (ltb (length s) 19) TooShort 0 ∷ []) short).0 in
       let (f, w, check, by) = open_facts site run words marks q.envelope q.program n v start in
       let whole = sym check ∙ papers_complete q (papers_good e p all each q at papers) in
       let own : f ≡ q = cc in

@@ -6,17 +6,17 @@ use Prim.Native.Nat.{ℕ, zero, suc, ◌-◌}
 use lib.ListN.{length, take, replicate}
 use Rattle.ground.specs.Bytes.{Bytes}
 use Rattle.ground.specs.Lists.{padded}
-use Rattle.ground.specs.Outcome.{Outcome, next}
+use Rattle.std.specs.Prelude.{Ok}
+use Rattle.ground.specs.Outcome.{Outcome, next, leaves}
 use Rattle.ground.specs.Outcome.Outcome.{good}
 use Rattle.fields.specs.Puts.{fitted, written_of, written_in}
-use Rattle.fields.specs.declared.puts.Written.TheVariants.{Length}
 use Rattle.fields.proofs.PutLaws.{written_back}
 use Rattle.contents.specs.declared.envelope.Envelope.{Envelope}
 use Rattle.envelopes.specs.Envelope.{read_envelope}
 use Rattle.envelopes.specs.Rules.{Within}
 use Rattle.envelopes.proofs.ExactEnvelope.{envelope_exact}
 use Rattle.paths.specs.declared.steps.Step.{Step}
-use Rattle.papers.specs.Programs.{no_step, program_with, program_bytes, read_program, check_program, write_program_of, Acceptable, tidy_program}
+use Rattle.papers.specs.Programs.{no_step, no_program, program_with, program_bytes, read_program, check_program, write_program_of, Acceptable, tidy_program}
 use Rattle.papers.specs.declared.programs.Program.{Program}
 use Rattle.papers.proofs.ExactPrograms.{read_complete}
 use Rattle.estimates.specs.Costs.{plain_costs}
@@ -70,8 +70,8 @@ module _ (s : List ℕ) (bytes : Bytes s) (e : Envelope) (at : ℕ) (read : read
   within = ((envelope_exact s e at bytes).0 read).0.0
 
   is_handed : program_for s ≡ program_with (planned plain_costs e).site (steps e)
-  unfolding program_for plan_of
-  is_handed = ap (λ (o : Outcome Envelope). program_of (plan_of o)) read ∙ as_handed e
+  unfolding program_for plan_of leaves
+  is_handed = ap (λ (o : Outcome Envelope). leaves program_of no_program (plan_of o)) read ∙ as_handed e
 
   pub plan_acceptable : Acceptable e (program_for s)
   plan_acceptable = rw is_handed (handed_acceptable e within)
@@ -92,7 +92,7 @@ module _ (s : List ℕ) (bytes : Bytes s) (e : Envelope) (at : ℕ) (read : read
   plan_papers = rw (read, plan_back)
 
   -- and so is what plan leaves at the front of the buffer, as far as the length that it answers
-  pub plan_left : (out : List ℕ) (n : ℕ) → written_of (plan_from s (length out)) ≡ Length n
+  pub plan_left : (out : List ℕ) (n : ℕ) → written_of (plan_from s (length out)) ≡ Ok n
       → papers_in s (take n (written_in out (plan_from s (length out)))) ≡ good (record { envelope = e; program = program_for s }) n
   unfolding plan_from write_program_of
   plan_left out n w =

@@ -3,13 +3,10 @@
 use Rattle.std.specs.Prelude.{ℕ, ◌%◌, ◌/◌, List, [], ◌∷◌, ◌++◌, take}
 use Rattle.ground.specs.Lists.{each}
 use Rattle.ground.specs.Least.{top}
-use Rattle.ground.specs.Outcome.{Outcome, next}
-use Rattle.ground.specs.Outcome.Outcome.{bad}
-use Rattle.ground.specs.declared.Verdict.{Verdict}
-use Rattle.ground.specs.declared.Verdict.TheVariants as verdict
+use Rattle.ground.specs.Outcome.{Outcome, next, leaves}
 use Rattle.fields.specs.Puts.{fitted}
 use Rattle.envelopes.specs.Envelope.{read_envelope}
-use Rattle.papers.specs.Programs.{write_program_of}
+use Rattle.papers.specs.Programs.{no_program, write_program_of}
 use Rattle.papers.specs.Checks.{papers_of}
 use Rattle.papers.specs.declared.programs.Program.{Program}
 use Rattle.estimates.specs.Estimate.{line_steps, estimate_of}
@@ -24,8 +21,9 @@ use Rattle.boundary.specs.Given.{papers_in}
 unfoldable pub program_of : Plan → Program
 program_of x = record { site = x.site; count = x.count; steps = line_steps x.lines }
 
+-- for an envelope that is refused, the empty one
 unfoldable pub program_for : List ℕ → Program
-program_for s = program_of (plan_of (read_envelope s))
+program_for s = leaves program_of no_program (plan_of (read_envelope s))
 
 -- written as any program is, so checked first
 unfoldable pub plan_from : List ℕ → ℕ → Outcome (List ℕ)
@@ -43,13 +41,9 @@ line_words l = pair_of l.benefit ++ pair_of l.cost
 unfoldable pub estimate_words : Estimate → List ℕ
 estimate_words x = each line_words (take x.count x.lines) ++ (pair_of x.assembly ++ pair_of x.total)
 
--- a refusal, or what comes after
-unfoldable pub unless : {A : Type 0} → Verdict → Outcome A → Outcome A
-unless verdict.Taken o = o
-unless (verdict.Refused n p) o = bad n p
-
-unfoldable pub estimate_with : Estimate → ℕ → Outcome (List ℕ)
-estimate_with x room = unless x.verdict (fitted room (estimate_words x))
+-- a refusal, or these words
+unfoldable pub estimate_with : Outcome Estimate → ℕ → Outcome (List ℕ)
+estimate_with o room = next o (λ x _. fitted room (estimate_words x))
 
 unfoldable pub estimate_from : List ℕ → List ℕ → ℕ → Outcome (List ℕ)
 estimate_from e p room =

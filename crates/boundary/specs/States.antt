@@ -5,7 +5,7 @@ use Rattle.std.proofs.lemmas.List.Edits.{sets}
 use Rattle.ground.specs.Tests.{pick}
 use Rattle.ground.specs.Lists.{any, below}
 use Rattle.ground.specs.Refusing.{Test, test}
-use Rattle.fields.specs.Refusals.{too_short}
+use Rattle.ground.specs.declared.refusals.Reason.TheVariants.{TooShort}
 use Rattle.contents.specs.Parts.{relation_count}
 use Rattle.papers.specs.declared.checks.Papers.{Papers}
 use Rattle.ends.specs.declared.ends.End.{End}
@@ -32,7 +32,7 @@ state_length = 19
 
 -- 11: fewer words than these
 abbrev pub state_test : List ℕ → Test
-state_test s = test (nat_lt (length s) state_length) too_short 0
+state_test s = test (nat_lt (length s) state_length) TooShort 0
 
 -- the numbers that a relation can have: below 8, written out so that it computes
 abbrev pub relation_numbers : List ℕ

@@ -3,7 +3,7 @@ use Rattle.std.specs.Prelude.{ℕ, List, [], ◌∷◌, length, nat_lt}
 use Rattle.ground.specs.Outcome.{Outcome, next, leaves}
 use Rattle.ground.specs.Outcome.Outcome.{good}
 use Rattle.ground.specs.Refusing.{test, judged}
-use Rattle.fields.specs.Refusals.{beyond_limit}
+use Rattle.ground.specs.declared.refusals.Reason.TheVariants.{BeyondLimit}
 use Rattle.contents.specs.declared.envelope.Envelope.{Envelope}
 use Rattle.papers.specs.declared.programs.Program.{Program}
 use Rattle.ends.specs.Ends.{Marked}
@@ -37,7 +37,7 @@ make_rows_from e p s words marks r room = next (end_in e p s) (λ x _. make_rows
 -- receiving, with an end that was read: a store of more words than a word can count is 4 at 0, like a count beyond its limit
 unfoldable pub receive_given : End → List ℕ → List ℕ → List ℕ → List ℕ → Outcome Held
 receive_given x words marks store m =
-    judged (test (nat_lt greatest_word (length store)) beyond_limit 0 ∷ []) (receive_of x words marks store m)
+    judged (test (nat_lt greatest_word (length store)) BeyondLimit 0 ∷ []) (receive_of x words marks store m)
 
 unfoldable pub receive_from : List ℕ → List ℕ → List ℕ → List ℕ → List ℕ → List ℕ → List ℕ → Outcome Held
 receive_from e p s words marks store m = next (end_in e p s) (λ x _. receive_given x words marks store m)

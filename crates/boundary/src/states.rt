@@ -1,36 +1,37 @@
 // What an end remembers between calls, as 19 words: site, run, used, applied 0 to 7, arrived 0 to 7.
-ghost use Rattle.std.specs.Prelude.{◌≡◌, ◌≤◌, ◌<◌, length};
-ghost use Rattle.boundary.specs.States.{state_length, unclear, end_of, bit_of, applied_word, state_words, state_after};
+ghost use Rattle.std.specs.Prelude.{◌≡◌, ◌≤◌, ◌<◌, length, nat_lt};
+ghost use Rattle.ground.specs.Lists.{any};
+ghost use Rattle.boundary.specs.States.{state_length, unclear, end_of, applied_word, state_after};
 
 use ends::ends::End;
 use papers::checks::Papers;
+use std::array;
 
-// How many words there are, and where those of relations begin; site, run and used stand before them.
+// How many words there are, and where they stand; those of relations from a place on.
 pub(crate) const LENGTH: usize = 19;
+
+const SITE: usize = 0;
+
+const RUN: usize = 1;
+
+const USED: usize = 2;
 
 const APPLIED: usize = 3;
 
 const ARRIVED: usize = 11;
+
+fn is_any_above_one(words: &[u32]) -> bool
+    ensures { result ≡ any (λ w. nat_lt 1 w) words.now }
+{
+    words.iter().any(|word| 1 < *word)
+}
 
 // Whether an arrived word is neither 0 nor 1.
 pub(crate) fn is_unclear(state: &[u32]) -> bool
     requires { state_length ≤ length state.now }
     ensures { result ≡ unclear state.now }
 {
-    let mut relation: usize = 0;
-    while relation < 8 {
-        if 1 < state[ARRIVED + relation] {
-            return true;
-        }
-        relation += 1;
-    }
-    false
-}
-
-fn wide(word: u32) -> usize
-    ensures { result ≡ word }
-{
-    word as usize
+    is_any_above_one(&state[ARRIVED..LENGTH])
 }
 
 // The end that the papers and the words are.
@@ -38,36 +39,15 @@ pub(crate) fn end_of(papers: Papers, state: &[u32]) -> End
     requires { state_length ≤ length state.now }
     ensures { result ≡ end_of papers state.now }
 {
-    let envelope = papers.envelope;
-    let program = papers.program;
-    let applied = [
-        state[3], state[4], state[5], state[6], state[7], state[8], state[9], state[10],
-    ];
-    let arrived = [
-        state[11] == 1,
-        state[12] == 1,
-        state[13] == 1,
-        state[14] == 1,
-        state[15] == 1,
-        state[16] == 1,
-        state[17] == 1,
-        state[18] == 1,
-    ];
     End {
-        envelope: envelope,
-        program: program,
-        site: state[0],
-        run: state[1],
-        applied: applied,
-        arrived: arrived,
-        used: wide(state[2]),
+        envelope: papers.envelope,
+        program: papers.program,
+        site: state[SITE],
+        run: state[RUN],
+        applied: array::from_fn(|relation| state[APPLIED + relation]),
+        arrived: array::from_fn(|relation| state[ARRIVED + relation] == 1),
+        used: state[USED] as usize,
     }
-}
-
-fn bit_of(mark: bool) -> u32
-    ensures { result ≡ bit_of mark }
-{
-    if mark { 1 } else { 0 }
 }
 
 // The applied word of a relation: behind the last one it stays as it is.
@@ -82,46 +62,19 @@ fn applied_word(relations: usize, applied: [u32; 8], state: &[u32], relation: us
     }
 }
 
-fn state_words(end: End, state: &[u32]) -> [u32; 19]
-    requires { state_length ≤ length state.now }
-    ensures { result ≡ state_words end state.now }
-{
-    let envelope = end.envelope;
-    let n = ground::used::in_use(8, envelope.relation_count);
-    let applied = end.applied;
-    let arrived = end.arrived;
-    [
-        end.site,
-        end.run,
-        crate::answers::as_word(end.used),
-        applied_word(n, applied, state, 0),
-        applied_word(n, applied, state, 1),
-        applied_word(n, applied, state, 2),
-        applied_word(n, applied, state, 3),
-        applied_word(n, applied, state, 4),
-        applied_word(n, applied, state, 5),
-        applied_word(n, applied, state, 6),
-        applied_word(n, applied, state, 7),
-        bit_of(arrived[0]),
-        bit_of(arrived[1]),
-        bit_of(arrived[2]),
-        bit_of(arrived[3]),
-        bit_of(arrived[4]),
-        bit_of(arrived[5]),
-        bit_of(arrived[6]),
-        bit_of(arrived[7]),
-    ]
-}
-
 // The state afterwards: its first 19 words.
 pub(crate) fn put_state(end: End, state: &mut [u32])
     requires { state_length ≤ length state.old }
     ensures { state.new ≡ state_after end state.old }
 {
-    let words = state_words(end, state);
-    let mut i: usize = 0;
-    while i < LENGTH {
-        state[i] = words[i];
-        i += 1;
-    }
+    let relations = ground::used::in_use(8, end.envelope.relation_count);
+    let applied: [u32; 8] = array::from_fn(|relation| applied_word(
+        relations,
+        end.applied,
+        state,
+        relation,
+    ));
+    state[..APPLIED].copy_from_slice(&[end.site, end.run, crate::answers::as_word(end.used)]);
+    state[APPLIED..ARRIVED].copy_from_slice(&applied);
+    state[ARRIVED..LENGTH].copy_from_slice(&end.arrived.map(u32::from));
 }

@@ -1,125 +1,81 @@
-// The calls on papers and on tables of every relation, behind the papers that the script has first: the other arguments read in
-// order, the call, its outcome. Each answers false where the script is damaged; then nothing was written.
-use crate::{input, output};
-use std::io;
+// The calls on papers and on tables of every relation: the arguments read in order, the call, its outcome.
+use crate::input::{MOST, Stop, next_slice};
+use crate::output::{put_answer, put_slice};
+use boundary::given::{legestran_read_envelope, legestran_read_program};
+use boundary::planning::{legestran_estimate, legestran_plan};
+use boundary::running::{legestran_answer, legestran_run_in_one_place};
 use std::io::{Read, Write};
 
-pub(crate) fn read_envelope<W: Write>(outcomes: &mut W, envelope: &[u8]) -> io::Result<bool> {
-    let answer = boundary::given::legestran_read_envelope(envelope);
-    output::put_answer(outcomes, answer)?;
-    Ok(true)
+pub(crate) fn read_envelope<R: Read, W: Write>(
+    script: &mut R,
+    outcomes: &mut W,
+) -> Result<(), Stop> {
+    let mut envelope = [0u8; MOST];
+    let envelope = next_slice(script, &mut envelope)?;
+    put_answer(outcomes, legestran_read_envelope(envelope))?;
+    Ok(())
 }
 
-pub(crate) fn read_program<W: Write>(
+pub(crate) fn read_program<R: Read, W: Write>(
+    script: &mut R,
     outcomes: &mut W,
-    envelope: &[u8],
-    program: &[u8],
-) -> io::Result<bool> {
-    let answer = boundary::given::legestran_read_program(envelope, program);
-    output::put_answer(outcomes, answer)?;
-    Ok(true)
+) -> Result<(), Stop> {
+    let mut envelope = [0u8; MOST];
+    let mut program = [0u8; MOST];
+    let envelope = next_slice(script, &mut envelope)?;
+    let program = next_slice(script, &mut program)?;
+    put_answer(outcomes, legestran_read_program(envelope, program))?;
+    Ok(())
 }
 
-pub(crate) fn plan<W: Write>(
-    outcomes: &mut W,
-    envelope: &[u8],
-    program: &mut [u8],
-) -> io::Result<bool> {
-    let answer = boundary::planning::legestran_plan(envelope, program);
-    output::put_answer(outcomes, answer)?;
-    output::put_bytes(outcomes, program)?;
-    Ok(true)
+pub(crate) fn plan<R: Read, W: Write>(script: &mut R, outcomes: &mut W) -> Result<(), Stop> {
+    let mut envelope = [0u8; MOST];
+    let mut program = [0u8; MOST];
+    let envelope = next_slice(script, &mut envelope)?;
+    let program = next_slice(script, &mut program)?;
+    put_answer(outcomes, legestran_plan(envelope, program))?;
+    put_slice(outcomes, program)?;
+    Ok(())
 }
 
 pub(crate) fn run_in_one_place<R: Read, W: Write>(
     script: &mut R,
     outcomes: &mut W,
-    envelope: &[u8],
-    program: &[u8],
-) -> io::Result<bool> {
-    let mut tables = [0u32; input::MOST];
-    let mut marks = [0u8; input::MOST];
-    let t = input::next_words(script, true, &mut tables)?;
-    let m = input::next_bytes(script, t.sound, &mut marks)?;
-    if !m.sound {
-        return Ok(false);
-    }
-    let words = t.count;
-    let rows = m.count;
-    put_run(
-        outcomes,
-        envelope,
-        program,
-        &tables[..words],
-        &mut marks[..rows],
-    )?;
-    Ok(true)
+) -> Result<(), Stop> {
+    let mut envelope = [0u8; MOST];
+    let mut program = [0u8; MOST];
+    let mut tables = [0u32; MOST];
+    let mut marks = [0u8; MOST];
+    let envelope = next_slice(script, &mut envelope)?;
+    let program = next_slice(script, &mut program)?;
+    let tables = next_slice(script, &mut tables)?;
+    let marks = next_slice(script, &mut marks)?;
+    let answer = legestran_run_in_one_place(envelope, program, tables, marks);
+    put_answer(outcomes, answer)?;
+    put_slice(outcomes, marks)?;
+    Ok(())
 }
 
-fn put_run<W: Write>(
-    outcomes: &mut W,
-    envelope: &[u8],
-    program: &[u8],
-    tables: &[u32],
-    marks: &mut [u8],
-) -> io::Result<()> {
-    let answer = boundary::running::legestran_run_in_one_place(envelope, program, tables, marks);
-    output::put_answer(outcomes, answer)?;
-    output::put_bytes(outcomes, marks)
+pub(crate) fn answer<R: Read, W: Write>(script: &mut R, outcomes: &mut W) -> Result<(), Stop> {
+    let mut envelope = [0u8; MOST];
+    let mut tables = [0u32; MOST];
+    let mut out = [0u32; MOST];
+    let envelope = next_slice(script, &mut envelope)?;
+    let tables = next_slice(script, &mut tables)?;
+    let out = next_slice(script, &mut out)?;
+    put_answer(outcomes, legestran_answer(envelope, tables, out))?;
+    put_slice(outcomes, out)?;
+    Ok(())
 }
 
-pub(crate) fn answer<R: Read, W: Write>(
-    script: &mut R,
-    outcomes: &mut W,
-    envelope: &[u8],
-) -> io::Result<bool> {
-    let mut tables = [0u32; input::MOST];
-    let mut out = [0u32; input::MOST];
-    let t = input::next_words(script, true, &mut tables)?;
-    let o = input::next_words(script, t.sound, &mut out)?;
-    if !o.sound {
-        return Ok(false);
-    }
-    let words = t.count;
-    let room = o.count;
-    put_answered(outcomes, envelope, &tables[..words], &mut out[..room])?;
-    Ok(true)
-}
-
-fn put_answered<W: Write>(
-    outcomes: &mut W,
-    envelope: &[u8],
-    tables: &[u32],
-    out: &mut [u32],
-) -> io::Result<()> {
-    let answer = boundary::running::legestran_answer(envelope, tables, out);
-    output::put_answer(outcomes, answer)?;
-    output::put_words(outcomes, out)
-}
-
-pub(crate) fn estimate<R: Read, W: Write>(
-    script: &mut R,
-    outcomes: &mut W,
-    envelope: &[u8],
-    program: &[u8],
-) -> io::Result<bool> {
-    let mut out = [0u32; input::MOST];
-    let o = input::next_words(script, true, &mut out)?;
-    if !o.sound {
-        return Ok(false);
-    }
-    let room = o.count;
-    put_estimated(outcomes, envelope, program, &mut out[..room])?;
-    Ok(true)
-}
-
-fn put_estimated<W: Write>(
-    outcomes: &mut W,
-    envelope: &[u8],
-    program: &[u8],
-    out: &mut [u32],
-) -> io::Result<()> {
-    let answer = boundary::planning::legestran_estimate(envelope, program, out);
-    output::put_answer(outcomes, answer)?;
-    output::put_words(outcomes, out)
+pub(crate) fn estimate<R: Read, W: Write>(script: &mut R, outcomes: &mut W) -> Result<(), Stop> {
+    let mut envelope = [0u8; MOST];
+    let mut program = [0u8; MOST];
+    let mut out = [0u32; MOST];
+    let envelope = next_slice(script, &mut envelope)?;
+    let program = next_slice(script, &mut program)?;
+    let out = next_slice(script, &mut out)?;
+    put_answer(outcomes, legestran_estimate(envelope, program, out))?;
+    put_slice(outcomes, out)?;
+    Ok(())
 }

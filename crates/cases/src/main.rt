@@ -5,8 +5,7 @@
 
 use contents::envelope::Envelope;
 use entries::places::Place;
-use fields::puts::Written;
-use ground::Verdict;
+use ground::refusals::Refusal;
 use papers::programs::Program;
 use paths::steps::Step;
 use std::io;
@@ -18,23 +17,17 @@ const SMALL: [u8; 54] = [
     0, 0, 0, 2, 1, 5, 0, 0, 0, 0, 4, 2, 0, 0, 0, 1, 2, 0, 0, 1, 0, 1, 0, 1,
 ];
 
-fn print_verdict(rt: &impl Print, what: &str, verdict: Verdict) -> io::Result<()> {
-    match verdict {
-        Verdict::Taken => println!(rt; "{what}: taken"),
-        Verdict::Refused { number, position } => {
-            println!(rt; "{what}: refused {number} {position}")
-        }
+// Whether what was read or checked is taken.
+fn print_taken<T: Drop>(rt: &impl Print, what: &str, answer: Result<T, Refusal>) -> io::Result<()> {
+    match answer {
+        Ok(_) => println!(rt; "{what}: taken"),
+        Err(refusal) => println!(rt; "{what}: {refusal}"),
     }
 }
 
-// The first n bytes of a paper.
-fn cut(rt: &impl Print, what: &str, paper: &[u8], n: usize) -> io::Result<()> {
-    if n <= paper.len() {
-        let read = envelopes::reading::read_envelope(&paper[..n]);
-        let verdict = read.verdict;
-        print_verdict(rt, what, verdict)?;
-    }
-    Ok(())
+// An envelope as bytes.
+fn envelope(rt: &impl Print, what: &str, paper: &[u8]) -> io::Result<()> {
+    print_taken(rt, what, envelopes::reading::read_envelope(paper))
 }
 
 // The small envelope with one byte changed.
@@ -42,19 +35,17 @@ fn changed(rt: &impl Print, what: &str, at: usize, value: u8) -> io::Result<()> 
     if at < 54 {
         let mut paper = SMALL;
         paper[at] = value;
-        let read = envelopes::reading::read_envelope(&paper);
-        let verdict = read.verdict;
-        print_verdict(rt, what, verdict)?;
+        envelope(rt, what, &paper)?;
     }
     Ok(())
 }
 
 fn heads(rt: &impl Print) -> io::Result<()> {
     let paper = SMALL;
-    cut(rt, "the small envelope", &paper, 54)?;
-    cut(rt, "the empty file", &paper, 0)?;
-    cut(rt, "cut inside the mark", &paper, 2)?;
-    cut(rt, "cut inside a size", &paper, 8)?;
+    envelope(rt, "the small envelope", &paper)?;
+    envelope(rt, "the empty file", b"")?;
+    envelope(rt, "cut inside the mark", &paper[..2])?;
+    envelope(rt, "cut inside a size", &paper[..8])?;
     changed(rt, "another mark", 2, 79)?;
     changed(rt, "another version", 3, 2)?;
     changed(rt, "version 0x0101", 4, 1)
@@ -78,40 +69,36 @@ fn rules(rt: &impl Print) -> io::Result<()> {
     changed(rt, "a join of two domains", 48, 1)?;
     changed(rt, "a join of a column with itself", 49, 0)?;
     // The small envelope with a byte behind it; and with no clause, so that relation 1 has no kept column.
-    cut(
+    envelope(
         rt,
         "a byte left over",
         b"CPN\x01\x00\x02\x0a\x00\x00\x00\x14\x00\x00\x00\x02\x01\x02\x05\x00\x00\x00\x00\x01\x05\x00\x00\x00\x01\x02\x03\x00\x00\x00\x02\x01\x05\x00\x00\x00\x00\x04\x02\x00\x00\x00\x01\x02\x00\x00\x01\x00\x01\x00\x01\x00",
-        55,
     )?;
-    cut(
+    envelope(
         rt,
         "a relation with no kept column",
         b"CPN\x01\x00\x02\x0a\x00\x00\x00\x14\x00\x00\x00\x02\x01\x02\x05\x00\x00\x00\x00\x01\x05\x00\x00\x00\x01\x02\x03\x00\x00\x00\x02\x01\x05\x00\x00\x00\x00\x04\x02\x00\x00\x00\x00\x01\x00\x01",
-        49,
     )
 }
 
-fn small() -> Envelope {
-    let paper = SMALL;
-    let read = envelopes::reading::read_envelope(&paper);
-    read.envelope
-}
-
 // The small envelope as a struct, with its clause standing that often.
-fn clauses(rt: &impl Print, what: &str, count: u8) -> io::Result<()> {
-    let mut envelope = small();
-    let array = envelope.clauses;
-    let clause = array[0];
-    envelope.clauses = [clause; 12];
+fn clauses(rt: &impl Print, what: &str, small: Envelope, count: u8) -> io::Result<()> {
+    let mut envelope = small;
+    envelope.clauses = [small.clauses[0]; 12];
     envelope.clause_count = count;
-    let read = envelopes::reading::check_envelope(envelope);
-    let verdict = read.verdict;
-    print_verdict(rt, what, verdict)
+    print_taken(rt, what, envelopes::reading::check_envelope(envelope))
 }
 
 // A program of relation left reduced by relation right, column 0 each, that often.
-fn steps(rt: &impl Print, what: &str, site: u8, count: u8, left: u8, right: u8) -> io::Result<()> {
+fn steps(
+    rt: &impl Print,
+    what: &str,
+    small: Envelope,
+    site: u8,
+    count: u8,
+    left: u8,
+    right: u8,
+) -> io::Result<()> {
     let step = Step {
         left: Place {
             relation: left,
@@ -123,84 +110,80 @@ fn steps(rt: &impl Print, what: &str, site: u8, count: u8, left: u8, right: u8) 
         },
     };
     let program = Program {
-        site: site,
-        count: count,
+        site,
+        count,
         steps: [step; 156],
     };
-    let read = papers::programs::check_program(small(), program);
-    let verdict = read.verdict;
-    print_verdict(rt, what, verdict)
+    print_taken(rt, what, papers::programs::check_program(small, program))
 }
 
-// A program as bytes.
-fn program(rt: &impl Print, what: &str, paper: &[u8]) -> io::Result<()> {
-    let read = papers::programs::read_program(small(), paper);
-    let verdict = read.verdict;
-    print_verdict(rt, what, verdict)
+fn structs(rt: &impl Print, small: Envelope) -> io::Result<()> {
+    clauses(rt, "twelve clauses", small, 12)?;
+    clauses(rt, "thirteen clauses in a struct", small, 13)?;
+    steps(rt, "156 steps", small, 1, 156, 0, 1)?;
+    steps(rt, "157 steps", small, 1, 157, 0, 1)?;
+    steps(rt, "a site that holds nothing", small, 3, 1, 0, 1)?;
+    steps(rt, "a relation that is not there", small, 1, 1, 0, 2)?;
+    steps(rt, "a step within a relation", small, 1, 1, 1, 1)
 }
 
-fn print_written(rt: &impl Print, what: &str, written: Written) -> io::Result<()> {
-    match written {
-        Written::Length(n) => println!(rt; "{what}: wrote {n}"),
-        Written::Refused { number, position } => {
-            print_verdict(rt, what, Verdict::Refused { number, position })
-        }
+// An envelope written to a buffer.
+fn written(rt: &impl Print, what: &str, envelope: Envelope, room: &mut [u8]) -> io::Result<()> {
+    match envelopes::reading::write_envelope(envelope, room) {
+        Ok(length) => println!(rt; "{what}: wrote {length}"),
+        Err(refusal) => println!(rt; "{what}: {refusal}"),
     }
 }
 
-fn writers(rt: &impl Print) -> io::Result<()> {
-    let mut room = [0u8; 54];
-    let envelope = small();
-    print_written(
-        rt,
-        "written to 54 bytes",
-        envelopes::reading::write_envelope(envelope, &mut room),
-    )?;
-    let mut short = [0u8; 53];
-    print_written(
-        rt,
-        "written to 53 bytes",
-        envelopes::reading::write_envelope(envelope, &mut short),
-    )
+fn writers(rt: &impl Print, small: Envelope) -> io::Result<()> {
+    written(rt, "written to 54 bytes", small, &mut [0u8; 54])?;
+    written(rt, "written to 53 bytes", small, &mut [0u8; 53])
 }
 
-fn structs(rt: &impl Print) -> io::Result<()> {
-    clauses(rt, "twelve clauses", 12)?;
-    clauses(rt, "thirteen clauses in a struct", 13)?;
-    steps(rt, "156 steps", 1, 156, 0, 1)?;
-    steps(rt, "157 steps", 1, 157, 0, 1)?;
-    steps(rt, "a site that holds nothing", 3, 1, 0, 1)?;
-    steps(rt, "a relation that is not there", 1, 1, 0, 2)?;
-    steps(rt, "a step within a relation", 1, 1, 1, 1)
+// A program as bytes.
+fn program(rt: &impl Print, what: &str, small: Envelope, paper: &[u8]) -> io::Result<()> {
+    print_taken(rt, what, papers::programs::read_program(small, paper))
 }
 
-fn programs(rt: &impl Print) -> io::Result<()> {
+fn programs(rt: &impl Print, small: Envelope) -> io::Result<()> {
     program(
         rt,
         "a program of one step",
+        small,
         b"SJP\x01\x00\x01\x01\x00\x00\x01\x00",
     )?;
-    program(rt, "an empty program paper", b"")?;
+    program(rt, "an empty program paper", small, b"")?;
     program(
         rt,
         "a program cut inside its step",
+        small,
         b"SJP\x01\x00\x01\x01\x00\x00\x01",
     )?;
-    program(rt, "an envelope for a program", b"CPN\x01\x00")?;
-    program(rt, "a program of version 2", b"SJP\x02\x00\x01\x00")?;
-    program(rt, "bytes behind a program", b"SJP\x01\x00\x01\x00\x07")?;
+    program(rt, "an envelope for a program", small, b"CPN\x01\x00")?;
+    program(rt, "a program of version 2", small, b"SJP\x02\x00\x01\x00")?;
+    program(
+        rt,
+        "bytes behind a program",
+        small,
+        b"SJP\x01\x00\x01\x00\x07",
+    )?;
     program(
         rt,
         "a step off every path",
+        small,
         b"SJP\x01\x00\x01\x02\x00\x00\x01\x00\x00\x01\x01\x00",
     )
 }
 
+// The first line of heads says that the small envelope is taken.
 fn main(rt: HostRuntime) -> io::Result<()> {
     heads(&rt)?;
     limits(&rt)?;
     rules(&rt)?;
-    structs(&rt)?;
-    writers(&rt)?;
-    programs(&rt)
+    if let Ok(small) = envelopes::reading::read_envelope(&SMALL) {
+        structs(&rt, small)?;
+        writers(&rt, small)?;
+        programs(&rt, small)?;
+    }
+    Ok(())
 }

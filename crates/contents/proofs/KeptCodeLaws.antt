@@ -5,57 +5,17 @@ use mathlib.Core.List.{List, [], ◌∷◌}
 use Prim.Native.Nat.{ℕ, ◌+◌, ◌≤◌, ◌<◌}
 use native.Mathlib.Omega.{arith}
 use borrow.Author.Tests.{lt-ltb, le-ltb}
-use lib.ListN.{length, take, set, replicate}
-use Rattle.ground.specs.Lists.{any, empty, filter, below}
+use lib.ListN.{length, set, replicate}
+use Rattle.std.specs.Prelude.{Some, None}
+use Rattle.ground.specs.Lists.{empty, filter, below}
 use Rattle.ground.specs.Searching.{first_from}
 use Rattle.ground.proofs.SearchingLaws.{Looking, first_more, first_found, first_none}
 use Rattle.ground.proofs.CollectingLaws.{Collecting, Picking, picking_below, picking_count, number_yes, number_no, number_done}
-use Rattle.entries.specs.Places.{place, same_place}
-use Rattle.contents.specs.Parts.{clauses_of, targets_of, relation_count, columns_in}
-use Rattle.contents.specs.Kept.{names, kept, kept_columns, first_bare, shown_columns, shown_bare}
-use Rattle.entries.specs.declared.places.Place.{Place}
-use Rattle.entries.specs.declared.clauses.Clause.{Clause}
-use Rattle.entries.specs.declared.clauses.ClauseKind.{ClauseKind}
-use Rattle.entries.specs.declared.clauses.ClauseKind.TheVariants.{Selection, Join}
+use Rattle.entries.specs.Places.{place}
+use Rattle.contents.specs.Parts.{relation_count, columns_in}
+use Rattle.contents.specs.Kept.{kept, kept_columns, first_bare, shown_columns, lowest_bare}
 use Rattle.contents.specs.declared.kept.Columns.{Columns}
-use Rattle.contents.specs.declared.kept.Bare.TheVariants.{Lowest, None}
 use Rattle.contents.specs.declared.envelope.Envelope.{Envelope}
-
--- ---- a clause that names a column
-
-module _ (k : ClauseKind) (x : Place) (a : Place) (b : Bool) (e : b ≡ same_place a x) where
-  pub names_selection : (v : ℕ) → k ≡ Selection a v → b ≡ names k x
-  unfolding names
-  names_selection v f = e ∙ simp f
-
-  module _ (c : Place) (f : k ≡ Join a c) where
-    pub names_left : b ≡ true → true ≡ names k x
-    unfolding names
-    names_left t = simp (f, ← e, t)
-
-    pub names_right : (d : Bool) → d ≡ same_place c x → b ≡ false → d ≡ names k x
-    unfolding names
-    names_right d g t = g ∙ simp (f, ← e, t)
-
--- ---- the tests of the two loops
-
-abbrev pub clause_names : Place → Clause → Bool
-clause_names x = λ (c : Clause). names c.kind x
-
-abbrev pub target_names : Place → Place → Bool
-target_names x = λ (t : Place). same_place t x
-
--- ---- a column that is kept
-
-module _ (e : Envelope) (x : Place) (b : Bool)
-    (g : b ≡ any (clause_names x) (take e.clause_count e.clauses)) where
-  pub kept_clause : b ≡ true → true ≡ kept e x
-  unfolding kept clauses_of
-  kept_clause t = simp (← g, t)
-
-  pub kept_target : (d : Bool) → b ≡ false → d ≡ any (target_names x) (take e.target_count e.targets) → d ≡ kept e x
-  unfolding kept clauses_of targets_of
-  kept_target d t h = h ∙ simp (← g, t)
 
 -- ---- collecting the kept columns of a relation
 
@@ -113,14 +73,14 @@ module _ (e : Envelope) (end r : ℕ) (l : Looking first_from (bare e) end r) wh
     pub bare_passed : (k.count ≡ 0 → ⊥) → Looking first_from (bare e) end (r + 1)
     bare_passed t = first_more (bare e) end r l h (empty_something (kept_columns e r) (λ z. t (counted ∙ z)))
 
-    pub bare_found : end ≡ relation_count e → k.count ≡ 0 → Lowest r ≡ shown_bare e
+    pub bare_found : end ≡ relation_count e → k.count ≡ 0 → Some r ≡ lowest_bare e
     unfolding first_bare
     bare_found u t =
         let f : r ≡ first_from (bare e) 0 (relation_count e) =
         rw (← u) (first_found (bare e) end r l h (empty_nothing (kept_columns e r) (sym counted ∙ t))) in
         rw (← f, lt-ltb r (relation_count e) (omega arith))
 
-  pub bare_none : end ≡ relation_count e → end ≤ r → None ≡ shown_bare e
+  pub bare_none : end ≡ relation_count e → end ≤ r → None ≡ lowest_bare e
   unfolding first_bare
   bare_none u h =
       let f : relation_count e ≡ first_from (bare e) 0 (relation_count e) = rw (← u) (first_none (bare e) end r l h) in

@@ -1,38 +1,15 @@
--- The laws of sites: what each return of the functions on a relation's site answers, and of the loop that looks for one there.
-use mathlib.Core.Path.{◌≡◌, ap, sym, ◌∙◌}
+-- The laws of sites: a place past the relations is at none, and what each return of the loop answers that looks for a relation at one.
+use mathlib.Core.Path.{◌≡◌, sym, ◌∙◌}
 use mathlib.Core.Bool.{Bool, true, false}
-use mathlib.Core.List.{List}
 use Prim.Native.Nat.{ℕ, ◌+◌, ◌≤◌, ◌<◌, min}
-use lib.ListN.{length, get_or, get_or-eq_default}
-use lib.Dec.{eqb}
-use borrow.Author.Tests.{lt-ltb, le-ltb}
+use borrow.Author.Tests.{le-ltb}
 use Rattle.ground.proofs.SearchingLaws.{some_from, Looking, some_more, some_found, some_none, any_numbers}
-use Rattle.entries.specs.Relations.{past_relation}
-use Rattle.contents.specs.Sites.{site_of, is_at, holds}
-use Rattle.entries.specs.declared.relations.Relation.{Relation}
+use Rattle.contents.specs.Sites.{is_at, holds}
 use Rattle.contents.specs.declared.envelope.Envelope.{Envelope}
-use Rattle.contents.proofs.PartLaws.{relation_inside, relation_outside}
 
-pub no_site : (relations : List Relation) (i : ℕ) → length relations ≤ i → 0 ≡ (get_or relations i past_relation).site
-no_site relations i h = simp (get_or-eq_default relations past_relation h)
-
-module _ (e : Envelope) (r : ℕ) where
-  pub site_inside : (k : ℕ) → r < e.relation_count → k ≡ (get_or e.relations r past_relation).site → k ≡ site_of e r
-  unfolding site_of
-  site_inside k h g = g ∙ ap (λ (x : Relation). x.site) (sym (relation_inside e r h))
-
-  pub site_outside : e.relation_count ≤ r → 0 ≡ site_of e r
-  unfolding site_of
-  site_outside h = ap (λ (x : Relation). x.site) (sym (relation_outside e r h))
-
-  module _ (site n : ℕ) (g : n ≡ min 8 e.relation_count) where
-    pub at_none : n ≤ r → false ≡ is_at e site r
-    unfolding is_at
-    at_none h = simp (← g, le-ltb _ _ h)
-
-    pub at_site : (k : ℕ) → r < n → k ≡ site_of e r → eqb k site ≡ is_at e site r
-    unfolding is_at
-    at_site k h f = simp (← g, lt-ltb _ _ h, f)
+pub at_none : (e : Envelope) (r site n : ℕ) → n ≡ min 8 e.relation_count → n ≤ r → false ≡ is_at e site r
+unfolding is_at
+at_none e r site n g h = simp (← g, le-ltb _ _ h)
 
 module _ (e : Envelope) (site end i : ℕ) (l : Looking some_from (is_at e site) end i) where
   pub site_passed : i < end → (b : Bool) → b ≡ is_at e site i → b ≡ false → Looking some_from (is_at e site) end (i + 1)

@@ -1,5 +1,5 @@
 -- "Kept columns are those in a clause or target." Refusal 9: "relation with no kept column", "lowest such".
-use Rattle.std.specs.Prelude.{ℕ, List, Bool, ◌||◌, length, nat_lt}
+use Rattle.std.specs.Prelude.{Option, Some, None, ℕ, List, Bool, ◌||◌, length, nat_lt}
 use Rattle.ground.specs.Tests.{pick}
 use Rattle.ground.specs.Lists.{filter, any, empty, below, padded}
 use Rattle.ground.specs.Searching.{first_from}
@@ -11,8 +11,6 @@ use Rattle.entries.specs.declared.clauses.ClauseKind.{ClauseKind}
 use Rattle.entries.specs.declared.clauses.ClauseKind.TheVariants.{Selection, Join}
 use Rattle.contents.specs.declared.envelope.Envelope.{Envelope}
 use Rattle.contents.specs.declared.kept.Columns.{Columns}
-use Rattle.contents.specs.declared.kept.Bare.{Bare}
-use Rattle.contents.specs.declared.kept.Bare.TheVariants.{Lowest, None}
 
 -- a clause names a column
 unfoldable pub names : ClauseKind → Place → Bool
@@ -35,5 +33,5 @@ first_bare e = first_from (λ r. empty (kept_columns e r)) 0 (relation_count e)
 abbrev pub shown_columns : List ℕ → Columns
 shown_columns l = record { count = length l; numbers = padded 8 0 l }
 
-abbrev pub shown_bare : Envelope → Bare
-shown_bare e = pick (nat_lt (first_bare e) (relation_count e)) (Lowest (first_bare e)) None
+abbrev pub lowest_bare : Envelope → Option ℕ
+lowest_bare e = pick (nat_lt (first_bare e) (relation_count e)) (Some (first_bare e)) None

@@ -5,13 +5,12 @@ ghost use Rattle.contents.specs.Parts.{columns_in};
 use crate::envelope::Envelope;
 
 // How many columns a relation has; none where the envelope has no such relation.
+#[tactic(auto, unfolding(crate::specs::Parts::columns_in))]
 pub fn columns_in(envelope: Envelope, relation: u8) -> u32
     ensures { result ≡ columns_in envelope relation }
 {
-    let relations = envelope.relations;
-    if relation < envelope.relation_count {
-        entries::places::column_count(relations, relation as usize)
-    } else {
-        0
-    }
+    envelope
+        .relations_in_use()
+        .get(relation as usize)
+        .map_or(0, |own| ground::used::in_use(8, own.column_count) as u32)
 }

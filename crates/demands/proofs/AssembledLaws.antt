@@ -6,7 +6,7 @@ use mathlib.Core.List.{List, []}
 use Prim.Native.Nat.{ℕ, ◌≤◌, ◌<◌}
 use lib.ListN.{length}
 use Rattle.ground.specs.Outcome.Outcome.{good, bad}
-use Rattle.fields.specs.Refusals.{waiting}
+use Rattle.ground.specs.declared.refusals.Reason.TheVariants.{Waiting}
 use Rattle.contents.specs.Parts.{relation_count}
 use Rattle.contents.specs.declared.envelope.Envelope.{Envelope}
 use Rattle.envelopes.specs.Rules.{Within}
@@ -72,7 +72,7 @@ module _ (c : Crew) (w : Allowed c) where
         }
 
     pub waits : (r : ℕ) → r < relation_count e → has_arrived x.end r ≡ false → ((k : ℕ) → k < r → has_arrived x.end k ≡ true)
-        → assembled_outcome x.end (lent_store x behind) lent ≡ bad waiting r
+        → assembled_outcome x.end (lent_store x behind) lent ≡ bad Waiting r
     waits r h missing before =
         let (y, u, is, _) =
         held_lies e c.run held (SoundRows e c.run) (λ _ _ z. z) x.end.arrived

@@ -12,11 +12,9 @@ use Rattle.ground.specs.Bytes.{Bytes}
 use Rattle.ground.specs.Outcome.{Outcome, next}
 use Rattle.ground.specs.Outcome.Outcome.{good, bad}
 use Rattle.ground.specs.Refusing.{Test, test, judged}
-use Rattle.ground.specs.declared.Verdict.{Verdict}
-use Rattle.ground.specs.declared.Verdict.TheVariants.{Taken, Refused}
 use Rattle.ground.proofs.OutcomeLaws.{good_bad, next_bad, turned_bad, leaves_refused}
 use Rattle.ground.proofs.RefusingLaws.{judged_number}
-use Rattle.fields.specs.Refusals.{beyond_limit, too_short}
+use Rattle.ground.specs.declared.refusals.Reason.TheVariants.{BeyondLimit, TooShort}
 use Rattle.fields.specs.Puts.{fitted}
 use Rattle.fields.proofs.PutLaws.{fitted_bad}
 use Rattle.contents.specs.declared.envelope.Envelope.{Envelope}
@@ -36,16 +34,19 @@ use Rattle.station.specs.Receiving.{Held, receive_of}
 use Rattle.boundary.specs.Answers.{greatest_word}
 use Rattle.boundary.specs.States.{state_test, unclear, end_of, state_after}
 use Rattle.boundary.specs.Given.{papers_in, end_in}
-use Rattle.boundary.specs.Planning.{program_for, plan_from, unless, estimate_words, estimate_with, estimate_from}
+use Rattle.boundary.specs.Planning.{program_for, plan_from, estimate_words, estimate_with, estimate_from}
 use Rattle.boundary.specs.Running.{run_from, answer_from}
 use Rattle.boundary.specs.Stations.{open_given, open_from, make_values_from, make_rows_from, receive_given, receive_from, answer_end_from}
 use Rattle.boundary.proofs.LeftLaws.{papers_good, end_parts}
 use Rattle.boundary.proofs.PlannedLaws.{plan_good}
 use Rattle.demands.specs.DemandOne.{By, After, own_papers}
 use Rattle.demands.specs.DemandOneCalls.{program_numbers, EveryCallFromOutside}
-use Rattle.demands.proofs.NumberLaws.{program_number}
+use Rattle.demands.proofs.NumberLaws.{numbered_lem, program_number}
 use Rattle.demands.proofs.PaperLaws.{read_number, estimate_refused}
 use Rattle.demands.proofs.DemandOneLaws.{demand_one}
+use Rattle.ground.specs.declared.refusals.Reason.{Reason}
+use Rattle.ground.specs.Refusals.{number_of}
+use Rattle.estimates.specs.declared.lines.Estimate.{Estimate}
 
 -- ---- one thing after another
 
@@ -53,7 +54,7 @@ after_next : {A B : Type 0} (o : Outcome A) (k : A → ℕ → Outcome B) (numbe
     → ((a : A) (p : ℕ) → o ≡ good a p → By bad (k a p) numbers) → After o bad (next o k) numbers
 after_next {A} {B} o k numbers rest n u h = go (next_bad o k n u h)
   where
-    go : (o ≡ bad n u) ⊎ ((a : A) × (p : ℕ) × (o ≡ good a p) × (k a p ≡ bad n u)) → (o ≡ bad n u) ⊎ Memᴰ n numbers
+    go : (o ≡ bad n u) ⊎ ((a : A) × (p : ℕ) × (o ≡ good a p) × (k a p ≡ bad n u)) → (o ≡ bad n u) ⊎ Memᴰ (number_of n) numbers
     go (inl z) = inl z
     go (inr (a, p, read, z)) = inr (rest a p read n u z)
 
@@ -62,23 +63,24 @@ not_again : {A B : Type 0} (o : Outcome A) (a : A) (p : ℕ) → o ≡ good a p 
     → By bad answer numbers
 not_again o a p is answer numbers after n u h = go (after n u h)
   where
-    go : (o ≡ bad n u) ⊎ Memᴰ n numbers → Memᴰ n numbers
+    go : (o ≡ bad n u) ⊎ Memᴰ (number_of n) numbers → Memᴰ (number_of n) numbers
     go (inl z) = absurd (good_bad a p n u (sym is ∙ z))
     go (inr listed) = listed
 
 -- a test alone
-test_number : {A : Type 0} (t : Test) (a : A) (p : ℕ) → By bad (judged (t ∷ []) (good a p)) (t.number ∷ [])
-test_number t a p n u h = go (judged_number (t ∷ []) (good a p) n u h)
+test_number : {A : Type 0} (t : Test) (a : A) (p : ℕ) → By bad (judged (t ∷ []) (good a p)) (number_of t.reason ∷ [])
+test_number t a p n u h = numbered_lem n (t.reason ∷ []) (go (judged_number (t ∷ []) (good a p) n u h))
   where
-    go : Memᴰ n (t.number ∷ []) ⊎ (good a p ≡ bad n u) → Memᴰ n (t.number ∷ [])
+    go : Memᴰ n (t.reason ∷ []) ⊎ (good a p ≡ bad n u) → Memᴰ n (t.reason ∷ [])
     go (inl listed) = listed
     go (inr z) = absurd (good_bad a p n u z)
 
 -- ---- a program, and an estimate
 
-against_number : (e : Envelope) (s : List ℕ) (n u : ℕ) → program_against e s ≡ bad n u → Memᴰ n program_numbers
+against_number : (e : Envelope) (s : List ℕ) (n : Reason) (u : ℕ) → program_against e s ≡ bad n u → Memᴰ (number_of n) program_numbers
+unfolding number_of
 against_number e s =
-    program_number (λ n. Memᴰ n program_numbers) (search Memᴰ.head) (search (Memᴰ.head, Memᴰ.tail) depth 12)
+    program_number (λ n. Memᴰ (number_of n) program_numbers) (search Memᴰ.head) (search (Memᴰ.head, Memᴰ.tail) depth 12)
     (search (Memᴰ.head, Memᴰ.tail) depth 12) (search (Memᴰ.head, Memᴰ.tail) depth 12)
     (search (Memᴰ.head, Memᴰ.tail) depth 12) (search (Memᴰ.head, Memᴰ.tail) depth 12) (legal e) e s
 
@@ -86,18 +88,14 @@ program_after : (f : Envelope) (p : List ℕ) → After (check_envelope f) bad (
 unfolding read_program
 program_after f p = after_next (check_envelope f) (λ g _. program_against g p) program_numbers (λ g _ _. against_number g p)
 
-unless_bad : {A : Type 0} (v : Verdict) (o : Outcome A) (n u : ℕ) → unless v o ≡ bad n u → (v ≡ Refused n u) ⊎ (o ≡ bad n u)
-unfolding unless
-unless_bad Taken o n u h = inr h
-unless_bad (Refused m q) o n u h = inl cc
-
 estimate_after : (o : Outcome Papers) (room : ℕ) → After o bad (estimate_with (estimate_of o) room) (11 ∷ [])
-unfolding estimate_with
-estimate_after o room n u h = go (unless_bad (estimate_of o).verdict (fitted room (estimate_words (estimate_of o))) n u h)
+unfolding estimate_with number_of
+estimate_after o room n u h = go (next_bad (estimate_of o) (λ x _. fitted room (estimate_words x)) n u h)
   where
-    go : ((estimate_of o).verdict ≡ Refused n u) ⊎ (fitted room (estimate_words (estimate_of o)) ≡ bad n u) → (o ≡ bad n u) ⊎ Memᴰ n (11 ∷ [])
+    go : (estimate_of o ≡ bad n u)
+        ⊎ ((x : Estimate) × (p : ℕ) × (estimate_of o ≡ good x p) × (fitted room (estimate_words x) ≡ bad n u)) → (o ≡ bad n u) ⊎ Memᴰ (number_of n) (11 ∷ [])
     go (inl z) = inl (estimate_refused o n u z)
-    go (inr z) = inr (fitted_bad room (estimate_words (estimate_of o)) n u z).0
+    go (inr (x, p, _, z)) = inr (numbered_lem n (TooShort ∷ []) (fitted_bad room (estimate_words x) n u z).0)
 
 -- the numbers behind an end, of making and of receiving
 abbrev make_numbers : List ℕ
@@ -130,14 +128,14 @@ module _ (e p : List ℕ) (all : Bytes e) (each : Bytes p) where
       (turned_bad (λ (q : Program). record { envelope = f; program = q }) (read_program f p) n u h))
 
   plan_number : (room : ℕ) → After (read_envelope e) bad (plan_from e room) (11 ∷ [])
-  unfolding plan_from
+  unfolding plan_from number_of
   plan_number room n u h = go (next_bad (read_envelope e) (λ f _. write_program_of f (program_for e) room) n u h)
     where
       go : (read_envelope e ≡ bad n u)
           ⊎ ((f : Envelope) × (v : ℕ) × (read_envelope e ≡ good f v) × (write_program_of f (program_for e) room ≡ bad n u))
-          → (read_envelope e ≡ bad n u) ⊎ Memᴰ n (11 ∷ [])
+          → (read_envelope e ≡ bad n u) ⊎ Memᴰ (number_of n) (11 ∷ [])
       go (inl z) = inl z
-      go (inr (f, v, read, _)) = inr (fitted_bad room (program_bytes (program_for e)) n u (sym (plan_good e all f v read room) ∙ h)).0
+      go (inr (f, v, read, _)) = inr (numbered_lem n (TooShort ∷ []) (fitted_bad room (program_bytes (program_for e)) n u (sym (plan_good e all f v read room) ∙ h)).0)
 
   answer_number_lem : (words out : List ℕ) → After (read_envelope e) bad (answer_from e words (length out)) (10 ∷ 11 ∷ [])
   unfolding answer_from
@@ -162,7 +160,7 @@ module _ (e p : List ℕ) (all : Bytes e) (each : Bytes p) where
 
   -- the state's 11 stands at the end of the list
   open_number : (s words marks : List ℕ) (site run : ℕ) → After (papers_in e p) bad (open_from e p site run words marks s) (10 ∷ 4 ∷ 11 ∷ [])
-  unfolding open_from open_given
+  unfolding open_from open_given number_of
   open_number s words marks site run =
       after_next (papers_in e p) _ (10 ∷ 4 ∷ 11 ∷ []) λ q at read.
       either (open_of q.envelope q.program site run words marks)
@@ -177,20 +175,20 @@ module _ (e p : List ℕ) (all : Bytes e) (each : Bytes p) where
 
   module _ (s : List ℕ) where
     end_number : After (papers_in e p) bad (end_in e p s) (11 ∷ 4 ∷ [])
-    unfolding end_in
+    unfolding end_in number_of
     end_number n u h = go (judged_number (state_test s ∷ []) (next (papers_in e p) clear) n u h)
       where
         clear : Papers → ℕ → Outcome End
-        clear q at = judged (test (unclear s) beyond_limit 0 ∷ []) (good (end_of q s) at)
+        clear q at = judged (test (unclear s) BeyondLimit 0 ∷ []) (good (end_of q s) at)
 
-        later : (papers_in e p ≡ bad n u) ⊎ Memᴰ n (4 ∷ []) → (papers_in e p ≡ bad n u) ⊎ Memᴰ n (11 ∷ 4 ∷ [])
+        later : (papers_in e p ≡ bad n u) ⊎ Memᴰ (number_of n) (4 ∷ []) → (papers_in e p ≡ bad n u) ⊎ Memᴰ (number_of n) (11 ∷ 4 ∷ [])
         later (inl z) = inl z
         later (inr listed) = inr (Memᴰ.tail listed)
 
-        go : Memᴰ n (too_short ∷ []) ⊎ (next (papers_in e p) clear ≡ bad n u) → (papers_in e p ≡ bad n u) ⊎ Memᴰ n (11 ∷ 4 ∷ [])
-        go (inl listed) = inr (Memᴰ.append_left (4 ∷ []) listed)
+        go : Memᴰ n (TooShort ∷ []) ⊎ (next (papers_in e p) clear ≡ bad n u) → (papers_in e p ≡ bad n u) ⊎ Memᴰ (number_of n) (11 ∷ 4 ∷ [])
+        go (inl listed) = inr (Memᴰ.append_left (4 ∷ []) (numbered_lem n (TooShort ∷ []) listed))
         go (inr z) =
-            later (after_next (papers_in e p) clear (4 ∷ []) (λ q at _. test_number (test (unclear s) beyond_limit 0) (end_of q s) at) n u z)
+            later (after_next (papers_in e p) clear (4 ∷ []) (λ q at _. test_number (test (unclear s) BeyondLimit 0) (end_of q s) at) n u z)
 
     end_again : {A : Type 0} (x : End) (at : ℕ) → end_in e p s ≡ good x at → (o : Outcome A) (numbers : List ℕ)
         → After (own_papers x) bad o numbers → By bad o numbers
@@ -215,16 +213,16 @@ module _ (e p : List ℕ) (all : Bytes e) (each : Bytes p) where
         (λ x at read. end_again x at read _ make_numbers ((demand_one x.envelope x.program x [] words marks [] out).making_rows r).0)
 
     receive_number : (words marks store m : List ℕ) → After (end_in e p s) bad (receive_from e p s words marks store m) receive_numbers
-    unfolding receive_from receive_given
+    unfolding receive_from receive_given number_of
     receive_number words marks store m =
         after_next (end_in e p s) _ receive_numbers λ x at read n u h.
         go x
         (end_again x at read _ receive_numbers (demand_one x.envelope x.program x m words marks store []).receiving.0)
-        n u (judged_number (test (ltb greatest_word (length store)) beyond_limit 0 ∷ []) (receive_of x words marks store m) n u h)
+        n u (judged_number (test (ltb greatest_word (length store)) BeyondLimit 0 ∷ []) (receive_of x words marks store m) n u h)
       where
-        go : (x : End) → By bad (receive_of x words marks store m) receive_numbers → (n u : ℕ)
-            → Memᴰ n (beyond_limit ∷ []) ⊎ (receive_of x words marks store m ≡ bad n u) → Memᴰ n receive_numbers
-        go x below n u (inl listed) = Memᴰ.append_left (10 ∷ 11 ∷ 1 ∷ 13 ∷ 14 ∷ 15 ∷ 16 ∷ 17 ∷ 11 ∷ []) listed
+        go : (x : End) → By bad (receive_of x words marks store m) receive_numbers → (n : Reason) (u : ℕ)
+            → Memᴰ n (BeyondLimit ∷ []) ⊎ (receive_of x words marks store m ≡ bad n u) → Memᴰ (number_of n) receive_numbers
+        go x below n u (inl listed) = Memᴰ.append_left (10 ∷ 11 ∷ 1 ∷ 13 ∷ 14 ∷ 15 ∷ 16 ∷ 17 ∷ 11 ∷ []) (numbered_lem n (BeyondLimit ∷ []) listed)
         go x below n u (inr z) = below n u z
 
     answer_end_number : (store out : List ℕ) → After (end_in e p s) bad (answer_end_from e p s store (length out)) (4 ∷ 14 ∷ 15 ∷ 12 ∷ 11 ∷ [])

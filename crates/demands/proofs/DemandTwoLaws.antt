@@ -5,7 +5,8 @@ use mathlib.Core.List.{List}
 use mathlib.Core.Logic.{◌↔◌}
 use Prim.Native.Nat.{ℕ, ◌≤◌}
 use lib.ListN.{length, get_or}
-use Rattle.ground.specs.Outcome.{verdict_of}
+use Rattle.std.specs.Prelude.{Ok}
+use Rattle.ground.specs.Outcome.{taken_of}
 use Rattle.ground.specs.Outcome.Outcome.{good}
 use Rattle.ground.proofs.EveryLaws.{every_map}
 use Rattle.contents.specs.declared.envelope.Envelope.{Envelope}
@@ -23,6 +24,7 @@ use Rattle.papers.proofs.ExactPrograms.{read_exact}
 use Rattle.papers.proofs.ExactChecks.{check_exact}
 use Rattle.estimates.specs.Costs.{plain_costs}
 use Rattle.estimates.specs.Estimate.{estimated, estimate_of}
+use Rattle.estimates.specs.declared.lines.Estimate.{Estimate}
 use Rattle.estimates.proofs.EstimateLaws.{estimated_lines, estimated_total}
 use Rattle.planner.proofs.PromiseLaws.{plan_checked, plan_read}
 use Rattle.tables.specs.Rows.{is_kept, word_of, kept_at}
@@ -50,18 +52,17 @@ path_legal e s l =
 -- ---- the estimate
 
 estimate_kept : (f : Envelope) (g : Program) → EstimateKept f g (estimated plain_costs f (steps_of g) g.site)
-unfolding estimated verdict_of
+unfolding estimated
 estimate_kept f g =
     record {
-      taken = refl;
       lines = estimated_lines plain_costs f (steps_of g) g.site;
       assembly = refl;
       total = estimated_total plain_costs f (steps_of g) g.site;
     }
 
-estimate_holds : (q : Papers) (u : ℕ) → EstimateKept q.envelope q.program (estimate_of (good q u))
-unfolding estimate_of
-estimate_holds q u = estimate_kept q.envelope q.program
+estimate_holds : (q : Papers) (u : ℕ) → (x : Estimate) × (taken_of (estimate_of (good q u)) ≡ Ok x) × EstimateKept q.envelope q.program x
+unfolding estimate_of taken_of
+estimate_holds q u = (_, refl, estimate_kept q.envelope q.program)
 
 -- ---- the answer, where it is taken
 

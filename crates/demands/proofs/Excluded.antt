@@ -8,7 +8,9 @@ use Prim.Native.Nat.{ℕ}
 use native.Mathlib.Omega.{arith}
 use lib.ListN.{length, get_or, replicate}
 use Rattle.ground.specs.Lists.{padded, numbers_from}
-use Rattle.ground.specs.Outcome.{numbered}
+use Rattle.std.specs.Prelude.{Result, Ok}
+use Rattle.ground.specs.declared.refusals.Refusal.{Refusal}
+use Rattle.ground.specs.Outcome.{numbered, taken_of}
 use Rattle.ground.specs.Outcome.Outcome.{good, bad}
 use Rattle.ground.specs.Bytes.{little_end, bytes_of}
 use Rattle.ground.specs.Searching.{first_from}
@@ -44,6 +46,7 @@ use Rattle.papers.proofs.ExamplePapers.{coupon_weigh}
 use Rattle.semijoin.proofs.Figures.{on_number, on_date, all_kept}
 use Rattle.semijoin.proofs.Figures as reduced
 use Rattle.answerer.specs.Answer.{answer_checked, answer_outcome}
+use Rattle.ground.specs.declared.refusals.Reason.{Reason}
 
 -- ---- what the definitions give
 
@@ -78,15 +81,18 @@ third_removed = ap (λ (l : List (List ℕ)). get_or (get_or l 4 []) 2 1) reduce
 
 -- ---- so
 
-pub not_refusing_everything : ((e : Envelope) → (n : ℕ) × (u : ℕ) × (check_envelope e ≡ bad n u)) → ⊥
+pub not_refusing_everything : ((e : Envelope) → (n : Reason) × (u : ℕ) × (check_envelope e ≡ bad n u)) → ⊥
 not_refusing_everything all = let (n, u, h) = all E1 in good_bad E1 195 n u (sym both_taken.0 ∙ h)
 
+same_plan : (x y : Plan) → ◌≡◌ {A = Result Plan Refusal} (Ok x) (Ok y) → x ≡ y
+same_plan x y h = cc
+
 -- of the envelopes that are taken
-pub not_one_plan : (x : Plan) → ((e f : Envelope) (u : ℕ) → check_envelope e ≡ good f u → plan_of (check_envelope e) ≡ x) → ⊥
-unfolding plan_of
+pub not_one_plan : (x : Plan) → ((e f : Envelope) (u : ℕ) → check_envelope e ≡ good f u → taken_of (plan_of (check_envelope e)) ≡ Ok x) → ⊥
+unfolding plan_of taken_of
 not_one_plan x all =
-    let first : plan_for plain_costs E1 ≡ x = sym (ap plan_of both_taken.0) ∙ all E1 E1 195 both_taken.0 in
-    let second : plan_for plain_costs fallen ≡ x = sym (ap plan_of both_taken.1) ∙ all fallen fallen 44 both_taken.1 in
+    let first : plan_for plain_costs E1 ≡ x = same_plan _ x (sym (ap (λ o. taken_of (plan_of o)) both_taken.0) ∙ all E1 E1 195 both_taken.0) in
+    let second : plan_for plain_costs fallen ≡ x = same_plan _ x (sym (ap (λ o. taken_of (plan_of o)) both_taken.1) ∙ all fallen fallen 44 both_taken.1) in
     let same : (plan_for plain_costs E1).local ≡ (plan_for plain_costs fallen).local = ap (λ (p : Plan). p.local) (first ∙ sym second) in
     omega (arith, same, locals.0, locals.1)
 

@@ -26,6 +26,7 @@ pub mod DemandThreeLaws
 pub mod Unique
 pub mod UniquePapers
 pub mod UniqueStations
+pub mod UniqueClosures
 pub mod Excluded
 pub mod Figures
 pub mod TwoStations

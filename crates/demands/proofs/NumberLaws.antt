@@ -2,7 +2,7 @@
 -- numbers are those of its fields.
 use mathlib.Core.Path.{◌≡◌, refl, subst}
 use mathlib.Core.Bool.{Bool, true, false}
-use mathlib.Core.List.{List, [], ◌∷◌}
+use mathlib.Core.List.{List, [], ◌∷◌, map, Memᴰ}
 use mathlib.Core.Logic.{◌⊎◌, inl, inr}
 use Prim.Native.Nat.{ℕ, zero, suc, ◌+◌, min}
 use lib.ListN.{length, get_or}
@@ -12,7 +12,7 @@ use Rattle.ground.specs.Bytes.{little_end}
 use Rattle.ground.specs.Outcome.{Outcome, next, and_more, numbered, many}
 use Rattle.ground.specs.Outcome.Outcome.{good, bad}
 use Rattle.ground.proofs.OutcomeLaws.{good_bad, next_bad}
-use Rattle.fields.specs.Refusals.{ends_inside, wrong_mark, wrong_version, beyond_limit, two_domains, same_column, left_over, not_legal, no_kept_column}
+use Rattle.ground.specs.declared.refusals.Reason.TheVariants.{EndsInside, WrongMark, WrongVersion, BeyondLimit, TwoDomains, SameColumn, LeftOver, NotLegal, NoKeptColumn}
 use Rattle.fields.specs.Numbers.{number_at, number_that, between, under, marked, mark_at, version_at, head_of}
 use Rattle.entries.specs.Places.{place, same_place, place_at}
 use Rattle.entries.specs.Relations.{past_relation, column_count, column_at, relation_with, columns_then, relation_at}
@@ -29,16 +29,23 @@ use Rattle.envelopes.proofs.ReadingLaws.{bare_picked}
 use Rattle.paths.specs.Steps.{step}
 use Rattle.paths.specs.declared.steps.Step.{Step}
 use Rattle.papers.specs.Programs.{SJP, program_with, step_at, ended_program, steps_then, program_by}
+use Rattle.ground.specs.declared.refusals.Reason.{Reason}
+use Rattle.ground.specs.Refusals.{number_of}
+use Rattle.ground.proofs.ListLaws.{map_mem}
 
-module _ (P : ℕ → Type 0) where
+-- a reason of a list has one of their numbers
+pub numbered_lem : (n : Reason) (reasons : List Reason) → Memᴰ n reasons → Memᴰ (number_of n) (map number_of reasons)
+numbered_lem n reasons listed = map_mem number_of listed
+
+module _ (P : Reason → Type 0) where
   -- whatever number it is refused by
   abbrev pub Refuses : {A : Type 0} → Outcome A → Type 0
-  Refuses o = (n u : ℕ) → o ≡ bad n u → P n
+  Refuses o = (n : Reason) (u : ℕ) → o ≡ bad n u → P n
 
   taken : {A : Type 0} (v : A) (p : ℕ) → Refuses (good v p)
   taken v p n u h = absurd (good_bad v p n u h)
 
-  refused : {A : Type 0} (k q : ℕ) → P k → Refuses {A = A} (bad k q)
+  refused : {A : Type 0} (k : Reason) (q : ℕ) → P k → Refuses {A = A} (bad k q)
   refused k q x n u h = let same : k ≡ n = cc in subst P same x
 
   picked : {A : Type 0} (t : Bool) (a b : Outcome A) → Refuses a → Refuses b → Refuses (pick t a b)
@@ -63,32 +70,32 @@ module _ (P : ℕ → Type 0) where
 
   -- ---- fields
 
-  module _ (one : P ends_inside) where
+  module _ (one : P EndsInside) where
     pub number : (w : ℕ) (s : List ℕ) (at : ℕ) → Refuses (number_at w s at)
     unfolding number_at
-    number w s at = picked (leb (at + w) (length s)) _ _ (taken (little_end w s at) (at + w)) (refused ends_inside at one)
+    number w s at = picked (leb (at + w) (length s)) _ _ (taken (little_end w s at) (at + w)) (refused EndsInside at one)
 
-    mark_number : P wrong_mark → (letters s : List ℕ) (at : ℕ) → Refuses (mark_at letters s at)
+    mark_number : P WrongMark → (letters s : List ℕ) (at : ℕ) → Refuses (mark_at letters s at)
     unfolding mark_at
     mark_number two letters s at =
         picked (leb (at + length letters) (length s)) _ _
-        (picked (marked letters s at) _ _ (taken letters (at + length letters)) (refused wrong_mark at two))
-        (refused ends_inside at one)
+        (picked (marked letters s at) _ _ (taken letters (at + length letters)) (refused WrongMark at two))
+        (refused EndsInside at one)
 
-    version_number : P wrong_version → (newest : ℕ) (s : List ℕ) (at : ℕ) → Refuses (version_at newest s at)
+    version_number : P WrongVersion → (newest : ℕ) (s : List ℕ) (at : ℕ) → Refuses (version_at newest s at)
     unfolding version_at
     version_number three newest s at =
-        chained (number_at 2 s at) _ (number 2 s at) (λ v q. picked (between 1 newest v) _ _ (taken v q) (refused wrong_version at three))
+        chained (number_at 2 s at) _ (number 2 s at) (λ v q. picked (between 1 newest v) _ _ (taken v q) (refused WrongVersion at three))
 
-    pub head_number : P wrong_mark → P wrong_version → (letters : List ℕ) (newest : ℕ) (s : List ℕ) → Refuses (head_of letters newest s)
+    pub head_number : P WrongMark → P WrongVersion → (letters : List ℕ) (newest : ℕ) (s : List ℕ) → Refuses (head_of letters newest s)
     unfolding head_of
     head_number two three letters newest s =
         chained (mark_at letters s 0) _ (mark_number two letters s 0) (λ _ p. version_number three newest s p)
 
-  module _ (one : P ends_inside) (four : P beyond_limit) where
+  module _ (one : P EndsInside) (four : P BeyondLimit) where
     pub number_that_lem : (fits : ℕ → Bool) (w : ℕ) (s : List ℕ) (at : ℕ) → Refuses (number_that fits w s at)
     unfolding number_that
-    number_that_lem fits w s at = chained (number_at w s at) _ (number one w s at) (λ v p. picked (fits v) _ _ (taken v p) (refused beyond_limit at four))
+    number_that_lem fits w s at = chained (number_at w s at) _ (number one w s at) (λ v p. picked (fits v) _ _ (taken v p) (refused BeyondLimit at four))
 
     -- a number that passes a test, and what comes after it
     then : {B : Type 0} (fits : ℕ → Bool) (w : ℕ) (s : List ℕ) (at : ℕ) (k : ℕ → ℕ → Outcome B)
@@ -120,7 +127,7 @@ module _ (P : ℕ → Type 0) where
         (λ rows u. chained (many (column_at count sizes rows s) k u) _ (several (λ _. column_at count sizes rows s) (λ _ z. column_number count sizes rows s z) 0 k u)
         (λ columns z. taken (relation_with site k rows columns) z))))
 
-    module _ (five : P two_domains) (six : P same_column) where
+    module _ (five : P TwoDomains) (six : P SameColumn) where
       selection_number : (count : ℕ) (relations : List Relation) (s : List ℕ) (at : ℕ) → Refuses (selection_at count relations s at)
       unfolding selection_at
       selection_number count relations s at =
@@ -133,8 +140,8 @@ module _ (P : ℕ → Type 0) where
           chained (place_at count relations s at) _ (place_number count relations s at)
           (λ a q. chained (place_at count relations s q) _ (place_number count relations s q)
           (λ b u. picked (eqb (domain_of relations a) (domain_of relations b)) _ _
-          (picked (same_place a b) _ _ (refused same_column start six) (taken (clause (Join a b)) u))
-          (refused two_domains start five)))
+          (picked (same_place a b) _ _ (refused SameColumn start six) (taken (clause (Join a b)) u))
+          (refused TwoDomains start five)))
 
       pub clause_number : (count : ℕ) (relations : List Relation) (s : List ℕ) (at : ℕ) → Refuses (clause_at count relations s at)
       unfolding clause_at
@@ -150,12 +157,12 @@ module _ (P : ℕ → Type 0) where
       list_number low high put item x s at e =
           then (between low high) 1 s at _ (λ n p. chained (many item n p) _ (several (λ _. item) (λ _ z. x z) 0 n p) (λ vs q. taken (put vs e) q))
 
-      module _ (seven : P left_over) (nine : P no_kept_column) (s : List ℕ) where
+      module _ (seven : P LeftOver) (nine : P NoKeptColumn) (s : List ℕ) where
         ended_number : (at : ℕ) (e : Envelope) → Refuses (ended s at e)
         unfolding ended
         ended_number at e =
-            picked (ltb at (length s)) _ _ (refused left_over at seven)
-            (rw (bare_picked (ltb (first_bare e) (relation_count e)) (first_bare e) e at) (picked (ltb (first_bare e) (relation_count e)) _ _ (refused no_kept_column (first_bare e) nine) (taken e at)))
+            picked (ltb at (length s)) _ _ (refused LeftOver at seven)
+            (rw (bare_picked (ltb (first_bare e) (relation_count e)) (first_bare e) e at) (picked (ltb (first_bare e) (relation_count e)) _ _ (refused NoKeptColumn (first_bare e) nine) (taken e at)))
 
         targets_number : (at : ℕ) (e : Envelope) → Refuses (targets_then s at e)
         unfolding targets_then
@@ -184,21 +191,21 @@ module _ (P : ℕ → Type 0) where
             chained (sizes_into s at e) _ (list_number 1 16 with_sizes (size_at s) (number_that_lem (between 1 16777215) 4 s) s at e)
             (λ f p. relations_number p f)
 
-        pub envelope_number : P wrong_mark → P wrong_version → Refuses (read_envelope s)
+        pub envelope_number : P WrongMark → P WrongVersion → Refuses (read_envelope s)
         unfolding envelope_from
         envelope_number two three =
             chained (head_of CPN 1 s) _ (head_number one two three CPN 1 s) (λ v p. sizes_number p (with_version v no_envelope))
 
     -- ---- a program against a good envelope
 
-    step_number : P not_legal → (lawful : Step → Bool) (e : Envelope) (s : List ℕ) (i at : ℕ) → Refuses (step_at lawful e s i at)
+    step_number : P NotLegal → (lawful : Step → Bool) (e : Envelope) (s : List ℕ) (i at : ℕ) → Refuses (step_at lawful e s i at)
     unfolding step_at
     step_number eight lawful e s i at =
         chained (place_at e.relation_count e.relations s at) _ (place_number e.relation_count e.relations s at)
         (λ a p. chained (place_at e.relation_count e.relations s p) _ (place_number e.relation_count e.relations s p)
-        (λ b q. picked (lawful (step a b)) _ _ (taken (step a b) q) (refused not_legal i eight)))
+        (λ b q. picked (lawful (step a b)) _ _ (taken (step a b) q) (refused NotLegal i eight)))
 
-    pub program_number : P wrong_mark → P wrong_version → P left_over → P not_legal → (lawful : Step → Bool) (e : Envelope) (s : List ℕ)
+    pub program_number : P WrongMark → P WrongVersion → P LeftOver → P NotLegal → (lawful : Step → Bool) (e : Envelope) (s : List ℕ)
         → Refuses (program_by lawful e s)
     unfolding program_by steps_then ended_program
     program_number two three seven eight lawful e s =
@@ -206,4 +213,4 @@ module _ (P : ℕ → Type 0) where
         (λ _ p. then (holds e) 1 s p _
         (λ site q. then (between 0 156) 1 s q _
         (λ n u. chained (numbered (step_at lawful e s) 0 n u) _ (several (step_at lawful e s) (step_number eight lawful e s) 0 n u)
-        (λ steps z. picked (ltb z (length s)) _ _ (refused left_over z seven) (taken (program_with site steps) z)))))
+        (λ steps z. picked (ltb z (length s)) _ _ (refused LeftOver z seven) (taken (program_with site steps) z)))))

@@ -18,7 +18,7 @@ use Rattle.ground.specs.Outcome.Outcome.{good, bad}
 use Rattle.ground.proofs.OutcomeLaws.{good_bad, next_good, next_bad}
 use Rattle.ground.proofs.EveryLaws.{every_take}
 use Rattle.ground.proofs.ByteLaws.{stands_left, stands_right, stands_inside, bytes_length}
-use Rattle.fields.specs.Refusals.{beyond_limit, two_domains, same_column}
+use Rattle.ground.specs.declared.refusals.Reason.TheVariants.{BeyondLimit, TwoDomains, SameColumn}
 use Rattle.fields.specs.Numbers.{number_at, number_that, under, between}
 use Rattle.fields.proofs.NumberLaws.{between_true}
 use Rattle.fields.proofs.ExactNumbers.{number_exact}
@@ -31,6 +31,7 @@ use Rattle.entries.specs.declared.clauses.ClauseKind.TheVariants.{Selection, Joi
 use Rattle.entries.specs.declared.places.Place.{Place}
 use Rattle.entries.specs.declared.relations.Relation.{Relation}
 use Rattle.envelopes.specs.Fits.{PlaceFits, ColumnFits, RelationFits, KindFits}
+use Rattle.ground.specs.declared.refusals.Reason.{Reason}
 
 -- a relation's array is as long as its count asks, and each column of it fits
 columns_whole : (r : Relation) → RelationFits r → r.column_count ≤ 8 → length (columns_of r) ≡ r.column_count
@@ -41,16 +42,16 @@ columns_fit : (r : Relation) → RelationFits r → Every ColumnFits (columns_of
 unfolding columns_of
 columns_fit r f = every_take ColumnFits r.column_count r.columns f.columns
 
-module _ (P : ℕ → Type 0) (s : List ℕ) where
+module _ (P : Reason → Type 0) (s : List ℕ) where
   -- read from at on, over some written bytes: refused as P says, and where it is taken it ends where they end
   pub record Over {A : Type 0} (at : ℕ) (o : Outcome A) (w : List ℕ) : Type 0 where
-    pub refuses : (n u : ℕ) → o ≡ bad n u → P n
+    pub refuses : (n : Reason) (u : ℕ) → o ≡ bad n u → P n
     pub ends : (v : A) (p : ℕ) → o ≡ good v p → p ≡ at + length w
 
   pub over_done : {A : Type 0} (at : ℕ) (v : A) → Over at (good v at) []
   over_done at v = record { refuses = λ n u h. absurd (good_bad v at n u h); ends = λ x p h. let same : at ≡ p = cc in omega (arith, same) }
 
-  pub over_bad : {A : Type 0} (at k q : ℕ) (w : List ℕ) → P k → Over {A = A} at (bad k q) w
+  pub over_bad : {A : Type 0} (at : ℕ) (k : Reason) (q : ℕ) (w : List ℕ) → P k → Over {A = A} at (bad k q) w
   over_bad at k q w x =
       record {
         refuses = λ n u h. let same : k ≡ n = cc in subst P same x;
@@ -84,7 +85,7 @@ module _ (P : ℕ → Type 0) (s : List ℕ) where
       two : (a : A) → Over (at + length u) (k a (at + length u)) w
       two a = second a (stands_right u w s at stands)
 
-      no : (n v : ℕ) → (o ≡ bad n v) ⊎ ((a : A) × (p : ℕ) × (o ≡ good a p) × (k a p ≡ bad n v)) → P n
+      no : (n : Reason) (v : ℕ) → (o ≡ bad n v) ⊎ ((a : A) × (p : ℕ) × (o ≡ good a p) × (k a p ≡ bad n v)) → P n
       no n v (inl z) = one.refuses n v z
       no n v (inr (a, p, is, z)) = let there : p ≡ at + length u = one.ends a p is in (two a).refuses n v (rw there at z)
 
@@ -111,7 +112,7 @@ module _ (P : ℕ → Type 0) (s : List ℕ) where
       (number_exact w s at).complete v (at + w) small (omega (arith, long), stands) (omega (arith, long, inside))
 
   -- and passes a test, or 4; then what comes after it
-  pub over_number : {B : Type 0} (fits : ℕ → Bool) (w v at : ℕ) (k : ℕ → ℕ → Outcome B) (rest : List ℕ) → P beyond_limit → 0 < w → v < 256 ^ w
+  pub over_number : {B : Type 0} (fits : ℕ → Bool) (w v at : ℕ) (k : ℕ → ℕ → Outcome B) (rest : List ℕ) → P BeyondLimit → 0 < w → v < 256 ^ w
       → Stands (bytes_of w v ++ rest) s at → (fits v ≡ true → Stands rest s (at + w) → Over (at + w) (k v (at + w)) rest)
       → Over at (next (number_that fits w s at) k) (bytes_of w v ++ rest)
   unfolding number_that
@@ -121,8 +122,8 @@ module _ (P : ℕ → Type 0) (s : List ℕ) where
       behind : Stands rest s (at + w)
       behind = rw (bytes_length w v) at (stands_right (bytes_of w v) rest s at stands)
 
-      go : (t : Bool) → fits v ≡ t → Over at (next (pick t (good v (at + w)) (bad beyond_limit at)) k) (bytes_of w v ++ rest)
-      go false e = over_bad at beyond_limit at (bytes_of w v ++ rest) four
+      go : (t : Bool) → fits v ≡ t → Over at (next (pick t (good v (at + w)) (bad BeyondLimit at)) k) (bytes_of w v ++ rest)
+      go false e = over_bad at BeyondLimit at (bytes_of w v ++ rest) four
       go true e =
           let x = second e behind in
           record {
@@ -130,7 +131,7 @@ module _ (P : ℕ → Type 0) (s : List ℕ) where
             ends = λ b q h. omega (arith, x.ends b q h, length-append (bytes_of w v) rest, bytes_length w v);
           }
 
-  module _ (four : P beyond_limit) where
+  module _ (four : P BeyondLimit) where
     pub place_over : (count : ℕ) (relations : List Relation) (a : Place) (at : ℕ) → PlaceFits a → Stands (place_bytes a) s at
         → Over at (place_at count relations s at) (place_bytes a)
     unfolding place_at place_bytes
@@ -179,7 +180,7 @@ module _ (P : ℕ → Type 0) (s : List ℕ) where
           ends = λ b q h. omega (arith, x.ends b q h, length-append (bytes_of w v) rest, bytes_length w v);
         })
 
-    module _ (five : P two_domains) (six : P same_column) where
+    module _ (five : P TwoDomains) (six : P SameColumn) where
       pub kind_over : (count : ℕ) (relations : List Relation) (c : ClauseKind) (at : ℕ) → KindFits c → Stands (kind_bytes c) s at
           → Over at (clause_at count relations s at) (kind_bytes c)
       unfolding clause_at selection_at join_at joined kind_bytes
@@ -197,5 +198,5 @@ module _ (P : ℕ → Type 0) (s : List ℕ) where
           (λ x y. over_chain (at + 1 + length (place_bytes a)) (place_at count relations s (at + 1 + length (place_bytes a))) _ (place_bytes b) [] y
           (λ v. place_over count relations b (at + 1 + length (place_bytes a)) f.1 v)
           (λ u v. over_pick _ (eqb (domain_of relations x) (domain_of relations u)) _ _ []
-          (over_pick _ (same_place x u) _ _ [] (over_bad _ same_column at [] six) (over_done _ (clause (Join x u))))
-          (over_bad _ two_domains at [] five)))))
+          (over_pick _ (same_place x u) _ _ [] (over_bad _ SameColumn at [] six) (over_done _ (clause (Join x u))))
+          (over_bad _ TwoDomains at [] five)))))

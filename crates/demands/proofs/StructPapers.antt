@@ -16,7 +16,7 @@ use Rattle.ground.specs.Outcome.Outcome.{good, bad}
 use Rattle.ground.proofs.EveryLaws.{every_take}
 use Rattle.ground.proofs.OutcomeLaws.{good_bad}
 use Rattle.ground.proofs.ByteLaws.{stands_self, stands_inside, bytes_length}
-use Rattle.fields.specs.Refusals.{wrong_version, beyond_limit, two_domains, same_column, not_legal, no_kept_column}
+use Rattle.ground.specs.declared.refusals.Reason.TheVariants.{WrongVersion, BeyondLimit, TwoDomains, SameColumn, NotLegal, NoKeptColumn}
 use Rattle.fields.specs.Numbers.{between, mark_at, version_at, head_of}
 use Rattle.fields.proofs.NumberLaws.{between_true}
 use Rattle.fields.proofs.ExactNumbers.{mark_exact}
@@ -40,6 +40,8 @@ use Rattle.papers.specs.declared.programs.Program.{Program}
 use Rattle.demands.specs.DemandOne.{struct_numbers}
 use Rattle.demands.proofs.PaperLaws.{papers_by}
 use Rattle.demands.proofs.StructLaws.{Over, over_done, over_bad, over_restated, over_pick, over_chain, over_each, over_number, over_plain, place_over, relation_over, kind_over}
+use Rattle.ground.specs.declared.refusals.Reason.{Reason}
+use Rattle.ground.specs.Refusals.{number_of}
 
 -- the arrays are as long as their counts ask, where those are within the limits
 sizes_whole : (x : Envelope) → Fits x → x.domain_count ≤ 16 → length (sizes_of x) ≡ x.domain_count
@@ -74,19 +76,19 @@ from_relations x = listed relation_bytes x.relation_count (relations_of x) ++ fr
 abbrev from_sizes : Envelope → List ℕ
 from_sizes x = listed (bytes_of 4) x.domain_count (sizes_of x) ++ from_relations x
 
-module _ (P : ℕ → Type 0) (s : List ℕ) (four : P beyond_limit) where
+module _ (P : Reason → Type 0) (s : List ℕ) (four : P BeyondLimit) where
   onward : (at : ℕ) (u w : List ℕ) → at + length (u ++ w) ≡ length s → at + length u + length w ≡ length s
   onward at u w h = omega (arith, h, length-append u w)
 
   -- the mark and the version: 3
-  head_over : (letters : List ℕ) (v : ℕ) → 0 < length letters → v < 65536 → P wrong_version → Stands (letters ++ bytes_of 2 v) s 0
+  head_over : (letters : List ℕ) (v : ℕ) → 0 < length letters → v < 65536 → P WrongVersion → Stands (letters ++ bytes_of 2 v) s 0
       → Over P s 0 (head_of letters 1 s) (letters ++ bytes_of 2 v)
   unfolding head_of version_at
   head_over letters v some small three stands =
       over_chain P s 0 (mark_at letters s 0) _ letters (bytes_of 2 v) stands mark
       (λ _ z. over_restated P s (0 + length letters) _ (bytes_of 2 v ++ []) (bytes_of 2 v) (simp append-nil) z
       (λ y. over_plain P s four 2 v (0 + length letters) _ [] (omega arith) small y
-      (λ _. over_pick P s _ (between 1 1 v) _ _ [] (over_done P s _ v) (over_bad P s _ wrong_version _ [] three))))
+      (λ _. over_pick P s _ (between 1 1 v) _ _ [] (over_done P s _ v) (over_bad P s _ WrongVersion _ [] three))))
     where
       mark : Stands letters s 0 → Over P s 0 (mark_at letters s 0) letters
       mark z =
@@ -119,15 +121,15 @@ module _ (P : ℕ → Type 0) (s : List ℕ) (four : P beyond_limit) where
           over_restated P s at _ (bytes_of 4 v ++ []) (bytes_of 4 v) (simp append-nil) stands
           (λ z. over_number P s (between 1 16777215) 4 v at good [] four (omega arith) small z (λ _ _. over_done P s (at + 4) v))
 
-      again : (n u : ℕ) → size_at s at ≡ bad n u → next (size_at s at) good ≡ bad n u
+      again : (n : Reason) (u : ℕ) → size_at s at ≡ bad n u → next (size_at s at) good ≡ bad n u
       again n u h = rw h
 
-  module _ (five : P two_domains) (six : P same_column) (nine : P no_kept_column) (x : Envelope) (f : Fits x) where
+  module _ (five : P TwoDomains) (six : P SameColumn) (nine : P NoKeptColumn) (x : Envelope) (f : Fits x) where
     ended_over : (at : ℕ) (e : Envelope) → length s ≤ at → Over P s at (ended s at e) []
     unfolding ended
     ended_over at e end =
         rw (le-ltb at (length s) end, bare_picked (ltb (first_bare e) (relation_count e)) (first_bare e) e at)
-        (over_pick P s at (ltb (first_bare e) (relation_count e)) _ _ [] (over_bad P s at no_kept_column (first_bare e) [] nine) (over_done P s at e))
+        (over_pick P s at (ltb (first_bare e) (relation_count e)) _ _ [] (over_bad P s at NoKeptColumn (first_bare e) [] nine) (over_done P s at e))
 
     targets_over : (at : ℕ) (e : Envelope) → at + length (from_targets x) ≡ length s → Stands (from_targets x) s at
         → Over P s at (targets_then s at e) (from_targets x)
@@ -172,7 +174,7 @@ module _ (P : ℕ → Type 0) (s : List ℕ) (four : P beyond_limit) where
         (sizes_of x) x.domain_count f.domains (sizes_whole x f) (every_take (λ n. n < 4294967296) x.domain_count x.sizes f.sizes) at e z)
         (λ g z. relations_over (at + length u) g (onward at u (from_relations x) end) z)
 
-    pub envelope_over : P wrong_version → s ≡ (CPN ++ bytes_of 2 x.version) ++ from_sizes x → (n u : ℕ) → read_envelope s ≡ bad n u → P n
+    pub envelope_over : P WrongVersion → s ≡ (CPN ++ bytes_of 2 x.version) ++ from_sizes x → (n : Reason) (u : ℕ) → read_envelope s ≡ bad n u → P n
     unfolding envelope_from
     envelope_over three is =
         let front = CPN ++ bytes_of 2 x.version in
@@ -185,7 +187,7 @@ module _ (P : ℕ → Type 0) (s : List ℕ) (four : P beyond_limit) where
 
   -- ---- a program
 
-  module _ (eight : P not_legal) (lawful : Step → Bool) (e : Envelope) (p : Program) (f : ProgramFits p) where
+  module _ (eight : P NotLegal) (lawful : Step → Bool) (e : Envelope) (p : Program) (f : ProgramFits p) where
     step_over : (t : Step) (i at : ℕ) → StepFits t → Stands (step_bytes t) s at → Over P s at (step_at lawful e s i at) (step_bytes t)
     unfolding step_at step_bytes
     step_over t i at g stands =
@@ -195,7 +197,7 @@ module _ (P : ℕ → Type 0) (s : List ℕ) (four : P beyond_limit) where
         (λ a z. over_chain P s (at + length (place_bytes t.left)) (place_at e.relation_count e.relations s (at + length (place_bytes t.left))) _
         (place_bytes t.right) [] z
         (λ y. place_over P s four e.relation_count e.relations t.right (at + length (place_bytes t.left)) g.right y)
-        (λ b y. over_pick P s _ (lawful (step a b)) _ _ [] (over_done P s _ (step a b)) (over_bad P s _ not_legal i [] eight))))
+        (λ b y. over_pick P s _ (lawful (step a b)) _ _ [] (over_done P s _ (step a b)) (over_bad P s _ NotLegal i [] eight))))
 
     steps_whole : p.count ≤ 156 → length (steps_of p) ≡ p.count
     unfolding steps_of
@@ -209,9 +211,9 @@ module _ (P : ℕ → Type 0) (s : List ℕ) (four : P beyond_limit) where
     unfolding ended_program
     ended_program_lem at q end = rw (le-ltb at (length s) end) (over_done P s at q)
 
-    pub program_over : P wrong_version
+    pub program_over : P WrongVersion
         → s ≡ (SJP ++ bytes_of 2 1) ++ (bytes_of 1 p.site ++ (bytes_of 1 p.count ++ (each step_bytes (steps_of p) ++ [])))
-        → (n u : ℕ) → program_by lawful e s ≡ bad n u → P n
+        → (n : Reason) (u : ℕ) → program_by lawful e s ≡ bad n u → P n
     unfolding program_by steps_then
     program_over three is =
         let front = SJP ++ bytes_of 2 1 in
@@ -250,19 +252,20 @@ program_from : (p : Program)
 unfolding program_bytes
 program_from p = simp (append_assoc, append-nil)
 
-pub check_struct : (e : Envelope) → Fits e → (n u : ℕ) → check_envelope e ≡ bad n u → Memᴰ n struct_numbers
-unfolding check_envelope
+pub check_struct : (e : Envelope) → Fits e → (n : Reason) (u : ℕ) → check_envelope e ≡ bad n u → Memᴰ (number_of n) struct_numbers
+unfolding check_envelope number_of
 check_struct e f =
-    envelope_over (λ n. Memᴰ n struct_numbers) (envelope_bytes e) (search (Memᴰ.head, Memᴰ.tail) depth 12)
+    envelope_over (λ n. Memᴰ (number_of n) struct_numbers) (envelope_bytes e) (search (Memᴰ.head, Memᴰ.tail) depth 12)
     (search (Memᴰ.head, Memᴰ.tail) depth 12) (search (Memᴰ.head, Memᴰ.tail) depth 12)
     (search (Memᴰ.head, Memᴰ.tail) depth 12) e f (search Memᴰ.head) (envelope_from_lem e)
 
-against_struct : (e : Envelope) (p : Program) → ProgramFits p → (n u : ℕ) → program_against e (program_bytes p) ≡ bad n u
-    → Memᴰ n (not_legal ∷ struct_numbers)
+against_struct : (e : Envelope) (p : Program) → ProgramFits p → (n : Reason) (u : ℕ) → program_against e (program_bytes p) ≡ bad n u
+    → Memᴰ (number_of n) (8 ∷ struct_numbers)
+unfolding number_of
 against_struct e p f =
-    program_over (λ n. Memᴰ n (not_legal ∷ struct_numbers)) (program_bytes p) (search (Memᴰ.head, Memᴰ.tail) depth 12)
+    program_over (λ n. Memᴰ (number_of n) (8 ∷ struct_numbers)) (program_bytes p) (search (Memᴰ.head, Memᴰ.tail) depth 12)
     (search Memᴰ.head) (legal e) e p f (search (Memᴰ.head, Memᴰ.tail) depth 12) (program_from p)
 
-pub papers_struct : (e : Envelope) → Fits e → (p : Program) → ProgramFits p → (n u : ℕ) → papers_of e p ≡ bad n u
-    → Memᴰ n (not_legal ∷ struct_numbers)
+pub papers_struct : (e : Envelope) → Fits e → (p : Program) → ProgramFits p → (n : Reason) (u : ℕ) → papers_of e p ≡ bad n u
+    → Memᴰ (number_of n) (8 ∷ struct_numbers)
 papers_struct e f p g n u h = papers_by e p n u h (λ z. Memᴰ.tail (check_struct e f n u z)) (λ x z. against_struct x p g n u z)

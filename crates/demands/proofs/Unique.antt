@@ -16,6 +16,18 @@ Determined {n} ps r meets =
     (κs : Lfts n) (a : Dens κs ps) (y z : (res_t r κs).Denot) (u v : Lasts (ended_of n ps r) κs a)
     → meets κs a y (at_exit (ended_of n ps r) κs a u) → meets κs a z (at_exit (ended_of n ps r) κs a v) → (y ≡ z) × (u ≡ v)
 
+-- of a slice that is handed out it is what it shows: where that lies is no matter of the contract
+abbrev pub Shown : {n : ℕ} (ps : List (ParamKind n)) (r : ResultKind n) → Out n ps r → {X : Lfts n → Type 0} → ((κs : Lfts n) → (res_t r κs).Denot → X κs) → Type 0
+Shown {n} ps r meets seen =
+    (κs : Lfts n) (a : Dens κs ps) (y z : (res_t r κs).Denot) (u v : Lasts (ended_of n ps r) κs a)
+    → meets κs a y (at_exit (ended_of n ps r) κs a u) → meets κs a z (at_exit (ended_of n ps r) κs a v) → (seen κs y ≡ seen κs z) × (u ≡ v)
+
+-- of a function that is handed a closure, where the closure's answers are of some kind
+abbrev pub DeterminedWhere : {n : ℕ} (ps : List (ParamKind n)) (r : ResultKind n) → Out n ps r → ((κs : Lfts n) → Dens κs ps → Type 0) → Type 0
+DeterminedWhere {n} ps r meets If =
+    (κs : Lfts n) (a : Dens κs ps) (y z : (res_t r κs).Denot) (u v : Lasts (ended_of n ps r) κs a) → If κs a
+    → meets κs a y (at_exit (ended_of n ps r) κs a u) → meets κs a z (at_exit (ended_of n ps r) κs a v) → (y ≡ z) × (u ≡ v)
+
 -- each equation of a contract says what a result or a lent thing is, so that two that meet it are one
 pub same : {A : Type 0} {meant a b : A} → a ≡ meant → b ≡ meant → a ≡ b
 same {A} {meant} {a} {b} p q = unique meant a b p q

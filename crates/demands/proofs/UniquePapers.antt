@@ -1,5 +1,6 @@
 -- Of each public function that reads, checks, writes, plans, estimates or lists, or serves those: its contract determines it.
 use Rattle.ground.proofs.least
+use Rattle.ground.proofs.refusals
 use Rattle.ground.proofs.used
 use Rattle.fields.proofs.numbers
 use Rattle.fields.proofs.puts
@@ -23,16 +24,24 @@ use Rattle.estimates.proofs.locals
 use Rattle.estimates.proofs.profiles
 use Rattle.planner.proofs.planner
 use Rattle.listing.proofs.listing
+use denote.RattleType.{RattleType}
+use denote.Param.Laws.{Laws}
 use mathlib.Core.Path.{refl}
-use Rattle.demands.proofs.Unique.{Determined, same}
+use Rattle.demands.proofs.Unique.{Determined, Shown, same}
 
 -- ---- ground
 
 pub in_use_one : Determined used.in_use.Kinds.ps used.in_use.Kinds.r used.in_use.Reads.Learnt
 in_use_one κs a y z u v p q = (same p q, refl)
 
+pub first_one : (T : RattleType) (l : Laws T) → Shown (used.first.Kinds.ps T l) (used.first.Kinds.r T l) (used.first.Reads.Learnt T l) (λ κs y. y.now)
+first_one T l κs a y z u v p q = (same p q, refl)
+
 pub nearer_of_one : Determined least.nearer_of.Kinds.ps least.nearer_of.Kinds.r least.nearer_of.Reads.Learnt
 nearer_of_one κs a y z u v p q = (same p q, refl)
+
+pub at_one : Determined refusals.Reason.at.Kinds.ps refusals.Reason.at.Kinds.r refusals.Reason.at.Reads.Learnt
+at_one κs a y z u v p q = (same p q, refl)
 
 -- ---- fields
 
@@ -70,9 +79,6 @@ read_clause_one κs a y z u v p q = (same p q, refl)
 
 pub no_place_one : Determined places.no_place.Kinds.ps places.no_place.Kinds.r places.no_place.Reads.Learnt
 no_place_one κs a y z u v p q = (same p q, refl)
-
-pub same_place_one : Determined places.same_place.Kinds.ps places.same_place.Kinds.r places.same_place.Reads.Learnt
-same_place_one κs a y z u v p q = (same p q, refl)
 
 pub named_column_one : Determined places.named_column.Kinds.ps places.named_column.Kinds.r places.named_column.Reads.Learnt
 named_column_one κs a y z u v p q = (same p q, refl)
@@ -118,6 +124,21 @@ is_at_one κs a y z u v p q = (same p q, refl)
 pub holds_relation_one : Determined sites.holds_relation.Kinds.ps sites.holds_relation.Kinds.r sites.holds_relation.Reads.Learnt
 holds_relation_one κs a y z u v p q = (same p q, refl)
 
+pub sizes_in_use_one : Shown envelope.Envelope.sizes_in_use.Kinds.ps envelope.Envelope.sizes_in_use.Kinds.r envelope.Envelope.sizes_in_use.Reads.Learnt (λ κs y. y.now)
+sizes_in_use_one κs a y z u v p q = (same p q, refl)
+
+pub relations_in_use_one : Shown envelope.Envelope.relations_in_use.Kinds.ps envelope.Envelope.relations_in_use.Kinds.r envelope.Envelope.relations_in_use.Reads.Learnt (λ κs y. y.now)
+relations_in_use_one κs a y z u v p q = (same p q, refl)
+
+pub clauses_in_use_one : Shown envelope.Envelope.clauses_in_use.Kinds.ps envelope.Envelope.clauses_in_use.Kinds.r envelope.Envelope.clauses_in_use.Reads.Learnt (λ κs y. y.now)
+clauses_in_use_one κs a y z u v p q = (same p q, refl)
+
+pub targets_in_use_one : Shown envelope.Envelope.targets_in_use.Kinds.ps envelope.Envelope.targets_in_use.Kinds.r envelope.Envelope.targets_in_use.Reads.Learnt (λ κs y. y.now)
+targets_in_use_one κs a y z u v p q = (same p q, refl)
+
+pub columns_in_use_one : Shown kept.Columns.in_use.Kinds.ps kept.Columns.in_use.Kinds.r kept.Columns.in_use.Reads.Learnt (λ κs y. y.now)
+columns_in_use_one κs a y z u v p q = (same p q, refl)
+
 -- ---- envelopes
 
 pub read_envelope_one : Determined reading.read_envelope.Kinds.ps reading.read_envelope.Kinds.r reading.read_envelope.Reads.Learnt
@@ -156,9 +177,6 @@ pub is_legal_one : Determined steps.is_legal.Kinds.ps steps.is_legal.Kinds.r ste
 is_legal_one κs a y z u v p q = (same p q, refl)
 
 -- ---- papers
-
-pub refused_papers_one : Determined checks.refused_papers.Kinds.ps checks.refused_papers.Kinds.r checks.refused_papers.Reads.Learnt
-refused_papers_one κs a y z u v p q = (same p q, refl)
 
 pub check_papers_one : Determined checks.check_papers.Kinds.ps checks.check_papers.Kinds.r checks.check_papers.Reads.Learnt
 check_papers_one κs a y z u v p q = (same p q, refl)

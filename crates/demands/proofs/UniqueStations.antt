@@ -118,7 +118,7 @@ pub open_one : Determined opening.open.Kinds.ps opening.open.Kinds.r opening.ope
 open_one κs a y z u v p q = (same p.0 q.0, λ i. (tt, (tt, (tt, (tt, (tt, (same p.1 q.1 i, tt)))))))
 
 pub receive_one : Determined receiving.receive.Kinds.ps receiving.receive.Kinds.r receiving.receive.Reads.Learnt
-receive_one κs a y z u v p q = (same p.0 q.0, λ i. (tt, (tt, (same p.1 q.1 i, (same p.2 q.2 i, (tt, tt))))))
+receive_one κs a y z u v p q = (same p.0 q.0, λ i. (same p.1 q.1 i, (tt, (same p.2 q.2 i, (same p.3 q.3 i, (tt, tt))))))
 
 -- ---- answerer
 

@@ -4,12 +4,12 @@
 -- refusal leaves; DemandOneCalls says it of boundary's calls. That each number is met is run (crates/cases, crates/refusals,
 -- crates/answers). That every call ends is the language's own guarantee, and that a call is taken or refused is what an outcome is.
 -- docs/CONTRACTS.md has the functions that cannot refuse, and those that read one field or entry of a paper.
-use Rattle.std.specs.Prelude.{ℕ, ◌≡◌, Bool, List, [], ◌∷◌, ◌⊎◌, length}
-use Rattle.demands.specs.Words.{List-as-Memᴰ, Outcome, bad, judgement, Refused, Unjudged, Place, Envelope, Fits}
+use Rattle.std.specs.Prelude.{Result, Err, ℕ, ◌≡◌, Bool, List, [], ◌∷◌, ◌⊎◌, length}
+use Rattle.demands.specs.Words.{List-as-Memᴰ, Reason, number_of, Refusal, refusal, Outcome, bad, verdict_of, leaves, judgement, Place, Envelope, Fits}
 use Rattle.demands.specs.Words.{Step, Program, ProgramFits, Papers, read_envelope, check_envelope, write_envelope_of, legality_of, selections_read, equalities_read}
 use Rattle.demands.specs.Words.{read_program, check_program, write_program_of, papers_of, estimate_of, plan_of, marks_tests, column_tests, values_outcome}
 use Rattle.demands.specs.Words.{written_from, written_in, value_of, open_outcome, reduce_outcome, run_outcome, End, sound_end, usable, open_of, opened_marks, make_values_of, make_rows_of}
-use Rattle.demands.specs.Words.{Held, receive_of, refused_by, shown_received, received_marks, received_store, answer_outcome, assembled_outcome}
+use Rattle.demands.specs.Words.{Held, receive_of, received_marks, received_store, answer_outcome, assembled_outcome}
 
 -- an envelope's numbers; with a program; and of structs, whose bytes have the mark, no field cut short and nothing left over
 abbrev pub envelope_numbers : List ℕ
@@ -21,16 +21,20 @@ papers_numbers = 8 ∷ envelope_numbers
 abbrev pub struct_numbers : List ℕ
 struct_numbers = 3 ∷ 4 ∷ 5 ∷ 6 ∷ 9 ∷ []
 
--- an answer that is a refusal is by one of these numbers; or else as the papers, which are checked first, are refused
-abbrev pub By : {A : Type 0} → (ℕ → ℕ → A) → A → List ℕ → Type 0
-By refused answer numbers = (n u : ℕ) → answer ≡ refused n u → List-as-Memᴰ n numbers
+-- a call's answer that is a refusal
+abbrev pub refused : {A : Type 0} → Reason → ℕ → Result A Refusal
+refused m u = Err (refusal m u)
 
-abbrev pub After : {A B : Type 0} → Outcome B → (ℕ → ℕ → A) → A → List ℕ → Type 0
-After papers refused answer numbers = (n u : ℕ) → answer ≡ refused n u → (papers ≡ bad n u) ⊎ List-as-Memᴰ n numbers
+-- an answer that is a refusal is by one of these numbers; or else as the papers, which are checked first, are refused
+abbrev pub By : {A : Type 0} → (Reason → ℕ → A) → A → List ℕ → Type 0
+By refusing answer numbers = (m : Reason) (u : ℕ) → answer ≡ refusing m u → List-as-Memᴰ (number_of m) numbers
+
+abbrev pub After : {A B : Type 0} → Outcome B → (Reason → ℕ → A) → A → List ℕ → Type 0
+After papers refusing answer numbers = (m : Reason) (u : ℕ) → answer ≡ refusing m u → (papers ≡ bad m u) ⊎ List-as-Memᴰ (number_of m) numbers
 
 -- where a call is refused, something that was lent is afterwards what it was before
 abbrev pub Stays : {A B : Type 0} → Outcome A → B → B → Type 0
-Stays o after before = (n u : ℕ) → o ≡ bad n u → after ≡ before
+Stays o after before = (m : Reason) (u : ℕ) → o ≡ bad m u → after ≡ before
 
 abbrev pub own_papers : End → Outcome Papers
 own_papers x = papers_of x.envelope x.program
@@ -49,15 +53,15 @@ pub record DemandOne (e : Envelope) (p : Program) (x : End) (s words marks store
   pub writes_envelope : let o = write_envelope_of e (length out) in After (check_envelope e) bad o (11 ∷ []) × Stays o (written_in out o) out
   pub writes_program : let o = write_program_of e p (length out) in After (check_program e p) bad o (11 ∷ []) × Stays o (written_in out o) out
   -- what is legal, implied, planned or estimated of them: refused as they are
-  pub legality : (t : Step) → After (check_envelope e) Unjudged (legality_of (check_envelope e) t) []
-  pub selections : (r : ℕ) → After (check_envelope e) Refused (selections_read (check_envelope e) r).verdict []
-  pub equalities : (r : ℕ) → After (check_envelope e) Refused (equalities_read (check_envelope e) r).verdict []
-  pub planning : After (check_envelope e) Refused (plan_of (check_envelope e)).verdict []
-  pub planning_bytes : After (read_envelope s) Refused (plan_of (read_envelope s)).verdict []
-  pub estimating : After (papers_of e p) Refused (estimate_of (papers_of e p)).verdict []
+  pub legality : (t : Step) → After (check_envelope e) refused (legality_of (check_envelope e) t) []
+  pub selections : (r : ℕ) → After (check_envelope e) refused (selections_read (check_envelope e) r) []
+  pub equalities : (r : ℕ) → After (check_envelope e) refused (equalities_read (check_envelope e) r) []
+  pub planning : After (check_envelope e) bad (plan_of (check_envelope e)) []
+  pub planning_bytes : After (read_envelope s) bad (plan_of (read_envelope s)) []
+  pub estimating : After (papers_of e p) bad (estimate_of (papers_of e p)) []
   -- tables and marks: 10, 11; a column: 14; its values into a buffer: 11; a step by some values, as receiving has them: 15
-  pub marks_judged : (k : ℕ) → By Refused (judgement (marks_tests e words k)) (10 ∷ 11 ∷ [])
-  pub column_judged : (a : Place) (k : ℕ) → By Refused (judgement (column_tests e a words k)) (10 ∷ 11 ∷ 14 ∷ [])
+  pub marks_judged : (k : ℕ) → By refused (judgement (marks_tests e words k)) (10 ∷ 11 ∷ [])
+  pub column_judged : (a : Place) (k : ℕ) → By refused (judgement (column_tests e a words k)) (10 ∷ 11 ∷ 14 ∷ [])
   pub gathering : (a : Place) (start : ℕ) → let o = values_outcome e words marks a start (length out) in
       By bad o (10 ∷ 11 ∷ 14 ∷ 11 ∷ []) × Stays o (written_from start out o) out
   pub opening_marks : (here : ℕ → Bool) → let o = open_outcome e words here marks in
@@ -82,7 +86,7 @@ pub record DemandOne (e : Envelope) (p : Program) (x : End) (s words marks store
   pub receiving : let o = receive_of x words marks store s in
       After (own_papers x) bad o (4 ∷ 10 ∷ 11 ∷ 1 ∷ 13 ∷ 14 ∷ 15 ∷ 16 ∷ 17 ∷ 11 ∷ [])
       × Stays o (received_marks marks o) marks × Stays o (received_store store o) store
-      × ((n u : ℕ) → o ≡ bad n u → shown_received (λ (h : Held). h.end) x o ≡ refused_by x n u)
+      × ((m : Reason) (u : ℕ) → o ≡ bad m u → (verdict_of o ≡ refused m u) × (leaves (λ (h : Held). h.end) x o ≡ x))
   -- "Answering on tables: 10, 11." 4, then "Answering at an end: 14 .., 15 .., 12, 11"
   pub answering_tables : let o = answer_outcome e words (length out) in
       After (check_envelope e) bad o (10 ∷ 11 ∷ []) × Stays o (written_in out o) out

@@ -7,8 +7,8 @@
 -- tables, or that apply the first step and skip the rest": run_folds and step say which rows are kept, and Upper and
 -- Answers of DemandThree that no other is sent or held. "An invented cost or benefit": estimate, and PlanKept for the plan.
 -- proofs/Excluded.antt has refusing everything, one plan, one answer and reducing nothing as laws.
-use Rattle.std.specs.Prelude.{ℕ, ◌+◌, ◌≤◌, ◌<◌, ◌≡◌, true, List, map, ◌↔◌, length, take}
-use Rattle.demands.specs.Words.{List-as-Memᴰ, Every, filter, combinations, sum, Bytes, good, Taken, clauses_of, targets_of, Envelope, Within, tidy, Fits}
+use Rattle.std.specs.Prelude.{Ok, ℕ, ◌+◌, ◌≤◌, ◌<◌, ◌≡◌, true, List, map, ◌↔◌, length, take}
+use Rattle.demands.specs.Words.{List-as-Memᴰ, Every, filter, combinations, sum, Bytes, good, taken_of, clauses_of, targets_of, Envelope, Within, tidy, Fits}
 use Rattle.demands.specs.Words.{read_envelope, check_envelope, envelope_bytes, column, PathBetween, edges, is_place, legal, legal_steps, Row, meets_all, target_row, tables_of, answer_rows, answer_words, Step}
 use Rattle.demands.specs.Words.{steps_of, read_program, check_program, program_bytes, Acceptable, tidy_program, ProgramFits, Program, local_profile, plain_costs, assembly_at, profile_after, kind_of, lines_of, costs_in}
 use Rattle.demands.specs.Words.{papers_of, Papers, estimate_of, Estimate, plan_of, PlanKept, count_in, row_count, answer_kept, words_of_rows, shaped, passes, Passing, opened_in, stepped, stepped_all, run_marks, run_outcome, row_of, word_of, kept_at, answer_outcome}
@@ -22,7 +22,6 @@ pub record OnPath (e : Envelope) (s : Step) : Type 0 where
 
 -- an estimate of a program: each step's benefit and cost in the profile that those before it leave, assembly, the total
 pub record EstimateKept (e : Envelope) (p : Program) (x : Estimate) : Type 0 where
-  pub taken : x.verdict ≡ Taken
   pub lines : take x.count x.lines ≡ lines_of plain_costs e (local_profile e) (steps_of p)
   pub assembly : x.assembly ≡ assembly_at plain_costs e (profile_after (kind_of plain_costs e) (local_profile e) (steps_of p)) p.site
   pub total : x.total ≡ sum (costs_in (take x.count x.lines)) + x.assembly
@@ -41,9 +40,9 @@ pub record DemandTwo : Type 0 where
   pub program_legal : (e : Envelope) (p : Program) → Acceptable e p → Every (OnPath e) (steps_of p)
   -- the estimate of a program that is taken, and the chosen program of every envelope that is taken
   pub estimate : (e : Envelope) (p : Program) (q : Papers) (u : ℕ) → papers_of e p ≡ good q u
-      → EstimateKept q.envelope q.program (estimate_of (papers_of e p))
-  pub plan_struct : (e f : Envelope) (u : ℕ) → check_envelope e ≡ good f u → PlanKept plain_costs f (plan_of (check_envelope e))
-  pub plan_bytes : (s : List ℕ) → Bytes s → (f : Envelope) (u : ℕ) → read_envelope s ≡ good f u → PlanKept plain_costs f (plan_of (read_envelope s))
+      → (x : Estimate) × (taken_of (estimate_of (papers_of e p)) ≡ Ok x) × EstimateKept q.envelope q.program x
+  pub plan_struct : (e f : Envelope) (u : ℕ) → check_envelope e ≡ good f u → PlanKept plain_costs f (taken_of (plan_of (check_envelope e)))
+  pub plan_bytes : (s : List ℕ) → Bytes s → (f : Envelope) (u : ℕ) → read_envelope s ≡ good f u → PlanKept plain_costs f (taken_of (plan_of (read_envelope s)))
   -- the reduced tables: local operations, then every step; where that is taken
   pub run : (e : Envelope) → Fits e → (p : Program) → ProgramFits p → (words marks after : List ℕ) (u : ℕ)
       → (run_outcome e p words marks ≡ good after u)

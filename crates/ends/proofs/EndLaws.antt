@@ -1,4 +1,4 @@
--- The laws of ends: an end at its start, what the loop over the relations' counts holds, and what each return of the check of an end answers.
+-- The laws of ends: what the loop over the relations' counts holds, and what each return of the check of an end answers.
 use mathlib.Core.Path.{◌≡◌, refl, ap, sym, ◌∙◌}
 use mathlib.Core.Bool.{Bool, true, false}
 use mathlib.Core.List.{List, [], ◌∷◌}
@@ -7,51 +7,35 @@ use native.Mathlib.Omega.{arith}
 use lib.ListN.{length, get_or, replicate, length-take, get_or-replicate, length-replicate, get_or-eq_default}
 use borrow.Author.Tests.{lt-ltb, le-ltb, ltb-true}
 use Rattle.ground.specs.Lists.{filter, below}
-use Rattle.ground.specs.Outcome.{Outcome, next, next_of}
+use Rattle.ground.specs.Outcome.{Outcome, Verdict, next, taken_of}
 use Rattle.ground.specs.Outcome.Outcome.{good, bad}
 use Rattle.ground.specs.Refusing.{test, judged, judgement}
-use Rattle.ground.specs.declared.Verdict.{Verdict}
-use Rattle.ground.specs.declared.Verdict.TheVariants.{Taken, Refused}
 use Rattle.ground.proofs.CountLaws.{split}
 use Rattle.ground.proofs.SearchingLaws.{some_from, Looking, some_more, some_found, some_none, any_numbers}
-use Rattle.ground.proofs.OutcomeLaws.{next_good}
+use Rattle.ground.proofs.OutcomeLaws.{next_good, value_good, value_bad}
 use Rattle.ground.proofs.RefusingLaws.{judged_good, judge_refused, judge_taken}
 use Rattle.ground.proofs.EveryLaws.{every_get_d}
 use Rattle.ground.proofs.TestLaws.{and_left}
-use Rattle.fields.specs.Refusals.{beyond_limit}
+use Rattle.ground.specs.declared.refusals.Reason.TheVariants.{BeyondLimit}
 use Rattle.contents.specs.Parts.{relation_count}
 use Rattle.contents.specs.Sites.{is_at}
 use Rattle.contents.specs.declared.envelope.Envelope.{Envelope}
 use Rattle.paths.specs.Steps.{legal, LegalStep}
 use Rattle.papers.specs.Programs.{no_step, steps_of}
 use Rattle.paths.specs.declared.steps.Step.{Step}
-use Rattle.papers.specs.Checks.{papers_of, shown_papers, GoodPapers}
+use Rattle.papers.specs.Checks.{papers_of, GoodPapers}
 use Rattle.papers.specs.declared.programs.Program.{Program}
 use Rattle.papers.specs.declared.checks.Papers.{Papers}
-use Rattle.papers.specs.declared.checks.PapersRead.{PapersRead}
-use Rattle.papers.proofs.CheckLaws.{papers_taken, papers_refused, papers_sound}
+use Rattle.papers.proofs.CheckLaws.{papers_sound}
 use Rattle.paths.proofs.StepLaws.{legal_step}
 use Rattle.tables.specs.Shape.{marks_tests}
 use Rattle.tables.proofs.JudgedLaws.{marks_pass}
 use Rattle.ends.specs.Reducing.{step_count, step_of, reduces, reducing, steps_before}
-use Rattle.ends.specs.Ends.{start_of, over_at, over_applied, sound_end, usable, Usable}
+use Rattle.ends.specs.Ends.{over_at, over_applied, sound_end, usable, Usable}
 use Rattle.ends.specs.declared.ends.End.{End}
-
--- ---- an end at its start
-
-pub start_is : (q : Papers) (site run : ℕ)
-    → record {
-      envelope = q.envelope;
-      program = q.program;
-      site = site;
-      run = run;
-      applied = replicate 8 0;
-      arrived = replicate 8 false;
-      used = 0;
-    }
-    ≡ start_of q site run
-unfolding start_of
-start_is q site run = refl
+use Rattle.ground.specs.declared.refusals.Refusal.{Refusal}
+use Rattle.ground.specs.Refusals.{refusal}
+use Rattle.std.specs.Prelude.{Result, Ok, Err}
 
 -- ---- the counts of applied steps
 
@@ -84,48 +68,58 @@ module _ (p : Program) (applied : List ℕ) (end i : ℕ) (l : Looking some_from
 
 -- ---- each return
 
-module _ (x : End) (c : PapersRead) (g : c ≡ shown_papers (papers_of x.envelope x.program)) where
+module _ (x : End) (r : Result Papers Refusal) (g : r ≡ taken_of (papers_of x.envelope x.program)) where
   abbrev after : Papers → ℕ → Outcome Papers
   after q p =
-      judged (test (over_applied q.program (relation_count q.envelope) x.applied) beyond_limit 0 ∷ []) (good q p)
+      judged (test (over_applied q.program (relation_count q.envelope) x.applied) BeyondLimit 0 ∷ []) (good q p)
 
-  pub sound_refused : (m q : ℕ) (z : PapersRead) → c.verdict ≡ Refused m q → z ≡ shown_papers (bad m q) → z ≡ shown_papers (sound_end x)
-  unfolding sound_end
-  sound_refused m q z h k = k ∙ ap (λ (o : Outcome Papers). shown_papers (next o after)) (sym (papers_refused _ c m q g h))
+  pub sound_refused : (y : Refusal) → r ≡ Err y → Err y ≡ taken_of (sound_end x)
+  unfolding sound_end taken_of
+  sound_refused y h = sym (rw (value_bad (papers_of x.envelope x.program) r y g h) refl)
 
-  module _ (h : c.verdict ≡ Taken) (b : Bool)
-      (f : b ≡ over_applied c.papers.program (min 8 c.papers.envelope.relation_count) x.applied) where
-    checked : sound_end x ≡ after c.papers (next_of (papers_of x.envelope x.program))
+  module _ (q : Papers) (h : r ≡ Ok q) where
+    found : (p : ℕ) × (papers_of x.envelope x.program ≡ good q p)
+    found = value_good (papers_of x.envelope x.program) r q g h
+
+    checked : sound_end x ≡ after q found.0
     unfolding sound_end
-    checked = ap (λ (o : Outcome Papers). next o after) (papers_taken _ c g h)
+    checked = ap (λ (o : Outcome Papers). next o after) found.1
 
-    pub sound_over : b ≡ true → (z : PapersRead) → z ≡ shown_papers (bad beyond_limit 0) → z ≡ shown_papers (sound_end x)
-    sound_over t z k = k ∙ ap shown_papers (sym (checked ∙ rw (← f, t)))
+    module _ (b : Bool) (f : b ≡ over_applied q.program (min 8 q.envelope.relation_count) x.applied) where
+      pub sound_over : b ≡ true → Err (refusal BeyondLimit 0) ≡ taken_of (sound_end x)
+      unfolding taken_of
+      sound_over t = rw (checked, ← f, t)
 
-    pub sound_good : b ≡ false → c ≡ shown_papers (sound_end x)
-    sound_good t = g ∙ ap shown_papers (papers_taken _ c g h ∙ sym (checked ∙ rw (← f, t)))
+      pub sound_good : b ≡ false → Ok q ≡ taken_of (sound_end x)
+      unfolding taken_of
+      sound_good t = rw (checked, ← f, t)
 
 -- ---- then the tables and the marks
 
-module _ (x : End) (words : List ℕ) (n : ℕ) (c : PapersRead) (g : c ≡ shown_papers (sound_end x)) where
+module _ (x : End) (words : List ℕ) (n : ℕ) (r : Result Papers Refusal) (g : r ≡ taken_of (sound_end x)) where
   abbrev then : Papers → ℕ → Outcome Papers
   then q p = judged (marks_tests q.envelope words n) (good q p)
 
-  pub usable_refused : (m q : ℕ) (z : PapersRead) → c.verdict ≡ Refused m q → z ≡ shown_papers (bad m q) → z ≡ shown_papers (usable x words n)
-  unfolding usable
-  usable_refused m q z h k = k ∙ ap (λ (o : Outcome Papers). shown_papers (next o then)) (sym (papers_refused _ c m q g h))
+  pub usable_refused : (y : Refusal) → r ≡ Err y → Err y ≡ taken_of (usable x words n)
+  unfolding usable taken_of
+  usable_refused y h = sym (rw (value_bad (sound_end x) r y g h) refl)
 
-  module _ (h : c.verdict ≡ Taken) (v : Verdict) (f : v ≡ judgement (marks_tests c.papers.envelope words n)) where
-    with_marks : usable x words n ≡ then c.papers (next_of (sound_end x))
+  module _ (q : Papers) (h : r ≡ Ok q) (v : Verdict) (f : v ≡ judgement (marks_tests q.envelope words n)) where
+    read : (p : ℕ) × (sound_end x ≡ good q p)
+    read = value_good (sound_end x) r q g h
+
+    with_marks : usable x words n ≡ then q read.0
     unfolding usable
-    with_marks = ap (λ (o : Outcome Papers). next o then) (papers_taken _ c g h)
+    with_marks = ap (λ (o : Outcome Papers). next o then) read.1
 
-    pub usable_marks : (m q : ℕ) (z : PapersRead) → v ≡ Refused m q → z ≡ shown_papers (bad m q) → z ≡ shown_papers (usable x words n)
-    usable_marks m q z t k = k ∙ ap shown_papers (sym (with_marks ∙ judge_refused (marks_tests c.papers.envelope words n) v f _ m q t))
+    pub usable_marks : (y : Refusal) → v ≡ Err y → Err y ≡ taken_of (usable x words n)
+    unfolding taken_of
+    usable_marks y t =
+        ap taken_of (sym (with_marks ∙ judge_refused (marks_tests q.envelope words n) v f (good q read.0) y.reason y.position t))
 
-    pub usable_good : v ≡ Taken → c ≡ shown_papers (usable x words n)
-    usable_good t =
-        g ∙ ap shown_papers (papers_taken _ c g h ∙ sym (with_marks ∙ judge_taken (marks_tests c.papers.envelope words n) v f _ t))
+    pub usable_good : v ≡ Ok (tt {0}) → Ok q ≡ taken_of (usable x words n)
+    unfolding taken_of
+    usable_good t = ap taken_of (sym (with_marks ∙ judge_taken (marks_tests q.envelope words n) v f (good q read.0) t))
 
 -- what is known of the papers that come out
 pub sound_good_papers : (x : End) (q : Papers) (u : ℕ) → sound_end x ≡ good q u → GoodPapers q
@@ -133,7 +127,7 @@ unfolding sound_end
 sound_good_papers x q u h =
     let (f, w, read, rest) = next_good (papers_of x.envelope x.program) _ q u h in
     let t =
-    ((judged_good (test (over_applied f.program (relation_count f.envelope) x.applied) beyond_limit 0 ∷ []) (good f w) q u).0 rest).1 in
+    ((judged_good (test (over_applied f.program (relation_count f.envelope) x.applied) BeyondLimit 0 ∷ []) (good f w) q u).0 rest).1 in
     let same : f ≡ q = cc in
     rw same at (papers_sound x.envelope x.program f w read)
 
@@ -147,18 +141,18 @@ usable_is x words n q u h =
     let found : Usable f words n = record { papers = sound_good_papers x f w read; shape = p.0; room = p.1 } in
     rw same at found
 
-pub usable_known : (x : End) (words : List ℕ) (n : ℕ) (c : PapersRead) → c ≡ shown_papers (usable x words n) → c.verdict ≡ Taken
-    → Usable c.papers words n
-usable_known x words n c g h = usable_is x words n c.papers _ (papers_taken _ c g h)
+pub usable_known : (x : End) (words : List ℕ) (n : ℕ) (r : Result Papers Refusal) → r ≡ taken_of (usable x words n) → (q : Papers) → r ≡ Ok q
+    → Usable q words n
+usable_known x words n r g q h = let (p, taken) = value_good (usable x words n) r q g h in usable_is x words n q p taken
 
 -- a call that begins so: refused, or by the papers
-module _ {A : Type 0} (with : Papers → Outcome A) (x : End) (words : List ℕ) (n : ℕ) (c : PapersRead)
-    (g : c ≡ shown_papers (usable x words n)) where
-  pub call_refused : (m u : ℕ) → c.verdict ≡ Refused m u → next (usable x words n) (λ q _. with q) ≡ bad m u
-  call_refused m u h = ap (λ (o : Outcome Papers). next o (λ q _. with q)) (papers_refused _ c m u g h)
+module _ {A : Type 0} (with : Papers → Outcome A) (x : End) (words : List ℕ) (n : ℕ) (r : Result Papers Refusal)
+    (g : r ≡ taken_of (usable x words n)) where
+  pub call_refused : (y : Refusal) → r ≡ Err y → next (usable x words n) (λ q _. with q) ≡ bad y.reason y.position
+  call_refused y h = ap (λ (o : Outcome Papers). next o (λ q _. with q)) (value_bad (usable x words n) r y g h)
 
-  pub call_with : c.verdict ≡ Taken → next (usable x words n) (λ q _. with q) ≡ with c.papers
-  call_with h = ap (λ (o : Outcome Papers). next o (λ q _. with q)) (papers_taken _ c g h)
+  pub call_with : (q : Papers) → r ≡ Ok q → next (usable x words n) (λ q _. with q) ≡ with q
+  call_with q h = ap (λ (o : Outcome Papers). next o (λ q _. with q)) (value_good (usable x words n) r q g h).1
 
 -- the steps of such papers are legal
 pub step_legal : (q : Papers) → GoodPapers q → (n : ℕ) → n < step_count q.program → LegalStep q.envelope (step_of q.program n)

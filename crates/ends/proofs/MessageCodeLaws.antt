@@ -1,15 +1,13 @@
 -- What the returns of the functions on messages' words cite.
 use mathlib.Core.Path.{◌≡◌, refl, sym}
 use mathlib.Core.Bool.{Bool, true, false, ◌&&◌}
-use mathlib.Core.List.{List, []}
+use mathlib.Core.List.{List}
 use Prim.Native.Nat.{ℕ, ◌+◌, ◌*◌, ◌-◌, ◌≤◌, ◌<◌}
-use native.Mathlib.Nat.{mul-le-mul}
 use native.Mathlib.Omega.{arith}
-use lib.ListN.{length, get_or, set}
-use lib.Seq.{sets}
+use lib.ListN.{length, get_or}
 use lib.Dec.{eqb, leb}
 use borrow.Author.Tests.{lt-ltb, le-ltb, le-leb, lt-leb, ne_eqb}
-use Rattle.ends.specs.Messages.{message_of, about_of, counted}
+use Rattle.ends.specs.Messages.{about_of, counted}
 use Rattle.ends.specs.declared.messages.About.TheVariants.{Step, Rows, Nothing}
 use Rattle.ends.proofs.MessageLaws.{about_step, about_between, about_past}
 
@@ -35,10 +33,6 @@ and_false : (a b : Bool) → b ≡ false → false ≡ (a && b)
 and_false true b t = sym t
 and_false false b t = refl
 
--- no product of a count within the size and so many words wraps
-pub product_small : (count k : ℕ) → count ≤ 4096 → k ≤ 255 → count * k ≤ 1044480
-product_small count k h l = mul-le-mul h l
-
 module _ (k : ℕ) (m : List ℕ) where
   pub counted_short : length m < 3 → false ≡ counted k m
   unfolding counted
@@ -51,8 +45,3 @@ module _ (k : ℕ) (m : List ℕ) where
   pub counted_whole : get_or m 2 0 ≤ 4096 → eqb (length m) (3 + get_or m 2 0 * k) ≡ counted k m
   unfolding counted
   counted_whole h = sym (rw (le-leb (get_or m 2 0) 4096 h))
-
--- word after word
-pub front_put : (run second count : ℕ) (before one two three : List ℕ) → one ≡ set before 0 run → two ≡ set one 1 second → three ≡ set two 2 count
-    → three ≡ sets before 0 (message_of run second count [])
-front_put run second count before one two three a b c = rw (c, b, a)

@@ -7,52 +7,20 @@ use Prim.Native.Nat.{ℕ, suc, ◌+◌, ◌≤◌, ◌<◌, min}
 use native.Mathlib.Decide.{ℕ_discrete}
 use native.Mathlib.Numerals.{add-one}
 use native.Mathlib.Omega.{arith}
-use lib.ListN.{length, get_or, take, set, length-take, length-append, get_or-append, get_or-eq_default}
+use lib.ListN.{length, get_or, set, length-append, get_or-append}
 use lib.Dec.{ltb}
-use lib.Seq.{get_or_at, get_or-take, get_or-set_same, get_or-set_other}
+use lib.Seq.{get_or_at, get_or-set_same, get_or-set_other}
 use borrow.Author.Tests.{eq-eqb, ne_eqb, lt-ltb, le-ltb}
 use Rattle.ground.specs.Tests.{pick}
 use Rattle.ground.specs.Lists.{filter, below}
 use Rattle.ground.proofs.OutcomeLaws.{never}
 use Rattle.ground.proofs.ListLaws.{get_d_mem, filter_from, filter_length}
 use Rattle.ground.proofs.NumbersLaws.{below_from, below_length, filter_below}
-use Rattle.entries.specs.Places.{no_place}
-use Rattle.entries.specs.declared.places.Place.{Place}
-use Rattle.paths.specs.Steps.{step}
-use Rattle.papers.specs.Programs.{no_step, steps_of}
-use Rattle.paths.specs.declared.steps.Step.{Step}
+use Rattle.papers.specs.Programs.{steps_of}
 use Rattle.papers.specs.declared.programs.Program.{Program}
 use Rattle.ends.specs.Reducing.{step_count, step_of, reduces, reducing, steps_before, is_missing, first_missing, missing_of}
-use Rattle.ends.specs.declared.reducing.Missing.{Missing}
-use Rattle.ends.specs.declared.reducing.Missing.TheVariants.{First, None}
+use Rattle.std.specs.Prelude.{Option, Some, None}
 use Rattle.ground.proofs.CountingLaws.{counted_more}
-
-module _ (steps : List Step) (count r n end : ℕ) (e : end ≡ min n (min 156 count)) where
-  pub all_of : length steps ≡ 156 → reducing (take count steps) r n ≡ filter (reduces (take count steps) r) (below end)
-  unfolding reducing
-  all_of l =
-      let s : min n (length (take count steps)) ≡ end = omega (arith, length-take count steps) in
-      ap (λ k. filter (reduces (take count steps) r) (below k)) s
-
--- a step by its number, and how many there are
-module _ (steps : List Step) (count k : ℕ) (e : k ≡ min 156 count) where
-  pub steps_in_use : length steps ≡ 156 → k ≡ length (take count steps)
-  steps_in_use l = omega (arith, length-take count steps)
-
-  pub step_inside : (n : ℕ) → n < k → get_or steps n no_step ≡ get_or (take count steps) n no_step
-  step_inside n h = sym (get_or-take count steps n no_step (omega arith))
-
-  pub step_outside : length steps ≡ 156 → (n : ℕ) → k ≤ n → (a : Place) → a ≡ no_place → step a a ≡ get_or (take count steps) n no_step
-  step_outside l n h a f = rw f (sym (get_or-eq_default (take count steps) no_step (omega (arith, length-take count steps))))
-
-module _ (p : Program) (n : ℕ) where
-  pub count_of_lem : (k : ℕ) → k ≡ length (take p.count p.steps) → k ≡ step_count p
-  unfolding steps_of
-  count_of_lem k e = e
-
-  pub step_of_lem : (x : Step) → x ≡ get_or (take p.count p.steps) n no_step → x ≡ step_of p n
-  unfolding step_of steps_of
-  step_of_lem x e = e
 
 -- ---- the steps of a relation below a number, and how many there are
 
@@ -124,12 +92,12 @@ applied_within p applied n few inside due r within = go (ℕ_discrete r (step_of
 
 module _ (p : Program) (r applied n : ℕ) where
   -- what an answer says
-  module _ (x : Missing) (e : x ≡ missing_of p r applied n) where
-    pub missing_first : (k : ℕ) → x ≡ First k → (is_missing p r applied n ≡ true) × (first_missing p r applied n ≡ k)
+  module _ (x : Option ℕ) (e : x ≡ missing_of p r applied n) where
+    pub missing_first : (k : ℕ) → x ≡ Some k → (is_missing p r applied n ≡ true) × (first_missing p r applied n ≡ k)
     unfolding missing_of is_missing first_missing steps_before
     missing_first k f = go (ltb applied (length (reducing (steps_of p) r n))) (sym f ∙ e)
       where
-        go : (b : Bool) → First k ≡ pick b (First (get_or (reducing (steps_of p) r n) applied 0)) None
+        go : (b : Bool) → Some k ≡ pick b (Some (get_or (reducing (steps_of p) r n) applied 0)) None
             → (b ≡ true) × (get_or (reducing (steps_of p) r n) applied 0 ≡ k)
         go true h = (refl, cc)
         go false h = let z : ◌≡◌ {A = ℕ} 0 1 = cc in absurd (never z)
@@ -138,7 +106,7 @@ module _ (p : Program) (r applied n : ℕ) where
     unfolding missing_of is_missing first_missing steps_before
     missing_not f = go (ltb applied (length (reducing (steps_of p) r n))) (sym f ∙ e)
       where
-        go : (b : Bool) → None ≡ pick b (First (get_or (reducing (steps_of p) r n) applied 0)) None → b ≡ false
+        go : (b : Bool) → None ≡ pick b (Some (get_or (reducing (steps_of p) r n) applied 0)) None → b ≡ false
         go true h = let z : ◌≡◌ {A = ℕ} 0 1 = cc in absurd (never z)
         go false h = refl
 
@@ -158,7 +126,7 @@ module _ (p : Program) (r n : ℕ) (inside : n < step_count p) (own : (step_of p
   lower m = below_from n (filter_from (reduces (steps_of p) r) (below n) (rw (up_to p r n (omega arith)) at m)).0
 
   module _ (applied : ℕ) where
-    pub next_itself : applied ≡ steps_before p r n → missing_of p r applied (n + 1) ≡ First n
+    pub next_itself : applied ≡ steps_before p r n → missing_of p r applied (n + 1) ≡ Some n
     unfolding missing_of is_missing first_missing steps_before
     next_itself e =
         rw (
@@ -167,7 +135,7 @@ module _ (p : Program) (r n : ℕ) (inside : n < step_count p) (own : (step_of p
           get_or_at before n [] 0 applied (sym e),
         )
 
-    pub next_earlier : applied < steps_before p r n → (k : ℕ) × (k < n) × (missing_of p r applied (n + 1) ≡ First k)
+    pub next_earlier : applied < steps_before p r n → (k : ℕ) × (k < n) × (missing_of p r applied (n + 1) ≡ Some k)
     unfolding missing_of is_missing first_missing steps_before
     next_earlier h = (
       get_or before applied 0,

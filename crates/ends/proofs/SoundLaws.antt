@@ -17,7 +17,7 @@ use Rattle.ground.proofs.ListLaws.{any_from}
 use Rattle.ground.proofs.NumbersLaws.{below_from}
 use Rattle.ground.proofs.RefusingLaws.{judged_good, judged_none, refusal_listed}
 use Rattle.ground.proofs.TestLaws.{not_holds}
-use Rattle.fields.specs.Refusals.{beyond_limit, wrong_shape, too_short}
+use Rattle.ground.specs.declared.refusals.Reason.TheVariants.{BeyondLimit, WrongShape, TooShort}
 use Rattle.contents.specs.Parts.{relation_count}
 use Rattle.papers.specs.Programs.{program_bytes}
 use Rattle.papers.specs.Checks.{papers_of}
@@ -30,6 +30,7 @@ use Rattle.tables.proofs.JudgedLaws.{marks_pass}
 use Rattle.ends.specs.Reducing.{step_count, steps_before}
 use Rattle.ends.specs.Ends.{over_at, over_applied, sound_end, usable, papers_of_end, Sound}
 use Rattle.ends.specs.declared.ends.End.{End}
+use Rattle.ground.specs.declared.refusals.Reason.{Reason}
 
 -- ---- counts of applied steps
 
@@ -78,24 +79,24 @@ own_papers_lem x room s words n q u h =
 
 -- ---- any end: by which numbers a call is refused before anything else
 
-abbrev pub first_numbers : List ℕ
-first_numbers = beyond_limit ∷ wrong_shape ∷ too_short ∷ []
+abbrev pub first_numbers : List Reason
+first_numbers = BeyondLimit ∷ WrongShape ∷ TooShort ∷ []
 
 -- an end that is not sound: the papers' own refusal, or 4 at 0
-pub sound_number : (x : End) (m p : ℕ) → sound_end x ≡ bad m p
-    → (papers_of x.envelope x.program ≡ bad m p) ⊎ (Memᴰ m (beyond_limit ∷ []) × (p ≡ 0))
+pub sound_number : (x : End) (m : Reason) (p : ℕ) → sound_end x ≡ bad m p
+    → (papers_of x.envelope x.program ≡ bad m p) ⊎ (Memᴰ m (BeyondLimit ∷ []) × (p ≡ 0))
 unfolding sound_end
 sound_number x m p h = go (next_bad (papers_of x.envelope x.program) _ m p h)
   where
     go : (papers_of x.envelope x.program ≡ bad m p)
         ⊎ ((q : Papers) × (u : ℕ) × (papers_of x.envelope x.program ≡ good q u)
-        × (judged (test (over_applied q.program (relation_count q.envelope) x.applied) beyond_limit 0 ∷ []) (good q u) ≡ bad m p))
-        → (papers_of x.envelope x.program ≡ bad m p) ⊎ (Memᴰ m (beyond_limit ∷ []) × (p ≡ 0))
+        × (judged (test (over_applied q.program (relation_count q.envelope) x.applied) BeyondLimit 0 ∷ []) (good q u) ≡ bad m p))
+        → (papers_of x.envelope x.program ≡ bad m p) ⊎ (Memᴰ m (BeyondLimit ∷ []) × (p ≡ 0))
     go (inl k) = inl k
     go (inr (q, u, _, k)) =
-        inr (refusal_listed (test (over_applied q.program (relation_count q.envelope) x.applied) beyond_limit 0 ∷ []) q u m p (refl, tt) k)
+        inr (refusal_listed (test (over_applied q.program (relation_count q.envelope) x.applied) BeyondLimit 0 ∷ []) q u m p (refl, tt) k)
 
-module _ (x : End) (words : List ℕ) (n m p : ℕ) where
+module _ (x : End) (words : List ℕ) (n : ℕ) (m : Reason) (p : ℕ) where
   abbrev pub ToldFirst : Type 0
   ToldFirst = (papers_of x.envelope x.program ≡ bad m p) ⊎ (Memᴰ m first_numbers × (p ≡ 0))
 
@@ -104,9 +105,9 @@ module _ (x : End) (words : List ℕ) (n m p : ℕ) where
   unfolding usable
   usable_number h = marked (next_bad (sound_end x) _ m p h)
     where
-      first : (papers_of x.envelope x.program ≡ bad m p) ⊎ (Memᴰ m (beyond_limit ∷ []) × (p ≡ 0)) → ToldFirst
+      first : (papers_of x.envelope x.program ≡ bad m p) ⊎ (Memᴰ m (BeyondLimit ∷ []) × (p ≡ 0)) → ToldFirst
       first (inl k) = inl k
-      first (inr (listed, zero)) = inr (Memᴰ.append_left (wrong_shape ∷ too_short ∷ []) listed, zero)
+      first (inr (listed, zero)) = inr (Memᴰ.append_left (WrongShape ∷ TooShort ∷ []) listed, zero)
 
       marked : (sound_end x ≡ bad m p) ⊎ ((q : Papers) × (u : ℕ) × (sound_end x ≡ good q u) × (judged (marks_tests q.envelope words n) (good q u) ≡ bad m p))
           → ToldFirst

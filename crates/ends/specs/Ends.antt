@@ -6,7 +6,7 @@ use Rattle.ground.specs.Lists.{any, below}
 use Rattle.ground.specs.Outcome.{Outcome, next}
 use Rattle.ground.specs.Outcome.Outcome.{good}
 use Rattle.ground.specs.Refusing.{Test, test, judged}
-use Rattle.fields.specs.Refusals.{beyond_limit, not_ours}
+use Rattle.ground.specs.declared.refusals.Reason.TheVariants.{BeyondLimit, NotOurs}
 use Rattle.contents.specs.Parts.{relation_count}
 use Rattle.papers.specs.Checks.{no_papers, papers_of, GoodPapers}
 use Rattle.papers.specs.declared.programs.Program.{Program}
@@ -37,7 +37,7 @@ unfoldable pub sound_end : End → Outcome Papers
 sound_end x =
     next (papers_of x.envelope x.program)
     (λ q p. judged
-    (test (over_applied q.program (relation_count q.envelope) x.applied) beyond_limit 0 ∷ [])
+    (test (over_applied q.program (relation_count q.envelope) x.applied) BeyondLimit 0 ∷ [])
     (good q p))
 
 -- then the tables, and so many marks: 10, 11
@@ -52,7 +52,7 @@ pub record Usable (q : Papers) (words : List ℕ) (n : ℕ) : Type 0 where
 
 -- 14, for row messages and the answer: the end is not at the assembly site
 abbrev pub assembly_test : Papers → End → Test
-assembly_test q x = test (not (nat_eq x.site q.program.site)) not_ours 0
+assembly_test q x = test (not (nat_eq x.site q.program.site)) NotOurs 0
 
 -- the papers of an end, as they stand in it
 abbrev pub papers_of_end : End → Papers

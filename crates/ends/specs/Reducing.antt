@@ -1,13 +1,11 @@
 -- "Every earlier step reducing S." "The receiver applies a relation's steps in program order." So a count of applied steps
 -- says which steps of a relation were applied, and which is the first missing.
-use Rattle.std.specs.Prelude.{ℕ, min, Bool, List, length, slice_index, slice_index_or, nat_eq, nat_lt}
+use Rattle.std.specs.Prelude.{Option, Some, None, ℕ, min, Bool, List, length, slice_index, slice_index_or, nat_eq, nat_lt}
 use Rattle.ground.specs.Tests.{pick}
 use Rattle.ground.specs.Lists.{filter, below}
 use Rattle.papers.specs.Programs.{no_step, steps_of}
 use Rattle.paths.specs.declared.steps.Step.{Step}
 use Rattle.papers.specs.declared.programs.Program.{Program}
-use Rattle.ends.specs.declared.reducing.Missing.{Missing}
-use Rattle.ends.specs.declared.reducing.Missing.TheVariants.{First, None}
 
 abbrev pub step_count : Program → ℕ
 step_count p = length (steps_of p)
@@ -35,5 +33,5 @@ unfoldable pub first_missing : Program → ℕ → ℕ → ℕ → ℕ
 first_missing p r applied n = slice_index (reducing (steps_of p) r n) applied
 
 -- what the function answers
-unfoldable pub missing_of : Program → ℕ → ℕ → ℕ → Missing
-missing_of p r applied n = pick (is_missing p r applied n) (First (first_missing p r applied n)) None
+unfoldable pub missing_of : Program → ℕ → ℕ → ℕ → Option ℕ
+missing_of p r applied n = pick (is_missing p r applied n) (Some (first_missing p r applied n)) None

@@ -1,12 +1,19 @@
 -- "The receiver applies a relation's steps in program order." The search for the next step of a relation, step by step, and what it
 -- finds: of the numbers of the relation's steps, the one behind so many.
-use Rattle.std.specs.Prelude.{ℕ, ◌+◌, ◌-◌, ◌≤◌, ◌<◌, ◌≡◌, true, false, List, [], ◌∷◌, slice_index, nat_le, nat_eq}
+use Rattle.std.specs.Prelude.{ℕ, Bool, ◌+◌, ◌-◌, ◌≤◌, ◌<◌, ◌≡◌, true, false, List, [], ◌∷◌, slice_index, nat_le, nat_eq}
 use Rattle.ground.specs.Tests.{pick}
 use Rattle.papers.specs.Programs.{steps_of}
 use Rattle.paths.specs.declared.steps.Step.{Step}
 use Rattle.papers.specs.declared.programs.Program.{Program}
 use Rattle.ends.specs.Reducing.{reducing, steps_before}
-use Rattle.ends.specs.declared.reducing.Search.{Search}
+
+-- a search: the relation, how many of its steps are still passed over, where it ends, and what was found
+pub record Search : Type 0 where
+  pub relation : ℕ
+  pub skip : ℕ
+  pub end : ℕ
+  pub found : Bool
+  pub at : ℕ
 
 -- one step is looked at
 unfoldable pub seen_of : Search → Step → ℕ → Search

@@ -55,7 +55,7 @@ pub fn is_counted(message: &[u32], each: u8) -> bool
     message.len() == FRONT + count * each as usize
 }
 
-// One word, where the message goes that far.
+// One word, where the message goes that far: by its place, since of a `get_mut` that finds none it is not known that the message stays.
 fn put_word(message: &mut [u32], at: usize, value: u32)
     ensures { message.new ≡ set message.old at value }
 {

@@ -6,7 +6,7 @@ use Rattle.ground.specs.Tests.{pick}
 use Rattle.ground.specs.Outcome.{Outcome, next}
 use Rattle.ground.specs.Outcome.Outcome.{good, bad}
 use Rattle.ground.specs.Bytes.{bytes_of}
-use Rattle.fields.specs.Refusals.{two_domains, same_column}
+use Rattle.ground.specs.declared.refusals.Reason.TheVariants.{TwoDomains, SameColumn}
 use Rattle.fields.specs.Numbers.{number_at, number_in}
 use Rattle.entries.specs.Places.{no_place, same_place, named_column, place_at, place_bytes}
 use Rattle.entries.specs.declared.places.Place.{Place}
@@ -14,8 +14,6 @@ use Rattle.entries.specs.declared.relations.Relation.{Relation}
 use Rattle.entries.specs.declared.clauses.Clause.{Clause}
 use Rattle.entries.specs.declared.clauses.ClauseKind.{ClauseKind}
 use Rattle.entries.specs.declared.clauses.ClauseKind.TheVariants.{Selection, Join}
-use Rattle.entries.specs.declared.clauses.ClauseRead.{ClauseRead}
-use Rattle.entries.specs.declared.clauses.ClauseRead.TheVariants.{Is, Not}
 
 abbrev pub clause : ClauseKind → Clause
 clause k = record { kind = k }
@@ -38,8 +36,8 @@ selection_at count relations s at =
 unfoldable pub joined : List Relation → ℕ → Place → Place → ℕ → Outcome Clause
 joined relations start a b q =
     pick (nat_eq (domain_of relations a) (domain_of relations b))
-    (pick (same_place a b) (bad same_column start) (good (clause (Join a b)) q))
-    (bad two_domains start)
+    (pick (same_place a b) (bad SameColumn start) (good (clause (Join a b)) q))
+    (bad TwoDomains start)
 
 unfoldable pub join_at : ℕ → List Relation → List ℕ → ℕ → ℕ → Outcome Clause
 join_at count relations s start at =
@@ -59,7 +57,3 @@ kind_bytes (Join a b) = bytes_of 1 2 ++ place_bytes a ++ place_bytes b
 
 abbrev pub clause_bytes : Clause → List ℕ
 clause_bytes c = kind_bytes c.kind
-
-unfoldable pub shown_clause : Outcome Clause → ClauseRead
-shown_clause (good c p) = Is c p
-shown_clause (bad n p) = Not n p

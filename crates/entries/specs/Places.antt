@@ -1,13 +1,11 @@
 -- A column named by its relation, "relation 1, column 1": in clauses, targets and steps.
 use Rattle.std.specs.Prelude.{ℕ, List, ◌++◌, Bool, ◌&&◌, slice_index_or, nat_eq}
 use Rattle.ground.specs.Outcome.{Outcome, next}
-use Rattle.ground.specs.Outcome.Outcome.{good, bad}
+use Rattle.ground.specs.Outcome.Outcome.{good}
 use Rattle.ground.specs.Bytes.{bytes_of}
 use Rattle.fields.specs.Numbers.{number_below}
 use Rattle.entries.specs.Relations.{no_column, past_relation, column_count}
 use Rattle.entries.specs.declared.places.Place.{Place}
-use Rattle.entries.specs.declared.places.PlaceRead.{PlaceRead}
-use Rattle.entries.specs.declared.places.PlaceRead.TheVariants.{Is, Not}
 use Rattle.entries.specs.declared.relations.Column.{Column}
 use Rattle.entries.specs.declared.relations.Relation.{Relation}
 
@@ -33,7 +31,3 @@ place_at count relations s at =
 
 unfoldable pub place_bytes : Place → List ℕ
 place_bytes a = bytes_of 1 a.relation ++ bytes_of 1 a.column
-
-unfoldable pub shown_place : Outcome Place → PlaceRead
-shown_place (good a p) = Is a p
-shown_place (bad n p) = Not n p

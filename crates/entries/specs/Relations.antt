@@ -3,15 +3,12 @@
 -- count at most the rows and at most the domain size, and 0 exactly when rows are 0."
 use Rattle.std.specs.Prelude.{ℕ, min, List, [], ◌++◌, slice_index, take, replicate}
 use Rattle.ground.specs.Lists.{each, padded}
-use Rattle.ground.specs.Outcome.{Outcome, next, many, verdict_of, next_of, value_of}
-use Rattle.ground.specs.Outcome.Outcome.{good, bad}
+use Rattle.ground.specs.Outcome.{Outcome, next, many}
+use Rattle.ground.specs.Outcome.Outcome.{good}
 use Rattle.ground.specs.Bytes.{bytes_of}
 use Rattle.fields.specs.Numbers.{number_in, number_below}
 use Rattle.entries.specs.declared.relations.Column.{Column}
 use Rattle.entries.specs.declared.relations.Relation.{Relation}
-use Rattle.entries.specs.declared.relations.ColumnRead.{ColumnRead}
-use Rattle.entries.specs.declared.relations.ColumnRead.TheVariants.{Is, Not}
-use Rattle.entries.specs.declared.relations.RelationRead.{RelationRead}
 
 abbrev pub no_column : Column
 no_column = record { domain = 0; width = 0; distinct = 0 }
@@ -61,10 +58,3 @@ relation_at count sizes s at =
 unfoldable pub relation_bytes : Relation → List ℕ
 relation_bytes r =
     bytes_of 1 r.site ++ bytes_of 1 r.column_count ++ bytes_of 4 r.rows ++ each column_bytes (columns_of r)
-
-unfoldable pub shown_column : Outcome Column → ColumnRead
-shown_column (good c p) = Is c p
-shown_column (bad n p) = Not n p
-
-abbrev pub shown_relation : Outcome Relation → RelationRead
-shown_relation o = record { verdict = verdict_of o; next = next_of o; relation = value_of no_relation o }

@@ -1,19 +1,21 @@
 // The relations of an envelope, and the columns of each.
 ghost use Rattle.std.specs.Prelude.{◌≡◌, ◌≤◌, min, slice_index, slice_index_or};
-ghost use Rattle.ground.specs.Outcome.Outcome.{bad};
-ghost use Rattle.fields.specs.Numbers.{number_in, shown_number};
+ghost use Rattle.ground.specs.Outcome.{read_of};
+ghost use Rattle.fields.specs.Numbers.{number_in};
 ghost use Rattle.entries.specs.Relations.{
   no_column,
   no_relation,
   column_at,
+  column_bytes,
   relation_at,
   columns_then,
-  shown_column,
-  shown_relation,
+  relation_bytes,
 };
 
-use fields::numbers::{NumberRead, Width};
-use ground::Verdict;
+use fields::lists::read_many;
+use fields::numbers::Width;
+use fields::puts::{Part, put_all};
+use ground::refusals::Refusal;
 
 #[derive(Clone, Copy)]
 pub struct Column {
@@ -30,23 +32,30 @@ pub struct Relation {
     pub columns: [Column; 8],
 }
 
-#[derive(Clone, Copy)]
-pub enum ColumnRead {
-    Is(Column, usize),
-    Not { number: u8, position: usize },
+impl Part for Column {
+    ghost bytes = { column_bytes };
+
+    ghost most = { 6 };
+
+    fn put(self, out: &mut [u8], at: usize) -> usize {
+        let p = self.domain.put(out, at);
+        let q = self.width.put(out, p);
+        self.distinct.put(out, q)
+    }
 }
 
-#[derive(Clone, Copy)]
-pub struct RelationRead {
-    pub verdict: Verdict,
-    pub next: usize,
-    pub relation: Relation,
-}
+impl Part for Relation {
+    ghost bytes = { relation_bytes };
 
-fn least(a: u32, b: u32) -> u32
-    ensures { result ≡ min a b }
-{
-    if a < b { a } else { b }
+    ghost most = { 54 };
+
+    fn put(self, out: &mut [u8], at: usize) -> usize {
+        let p = self.site.put(out, at);
+        let q = self.column_count.put(out, p);
+        let u = self.rows.put(out, q);
+        let columns = ground::used::first(&self.columns, self.column_count);
+        put_all(out, u, columns)
+    }
 }
 
 // The empty column: what stands in an array behind the last one, and past it.
@@ -60,80 +69,57 @@ pub fn no_column() -> Column
     }
 }
 
-// A column of an array of them; past its end the empty one.
-pub fn column_at(columns: [Column; 8], i: usize) -> Column
-    ensures { result ≡ slice_index_or columns i no_column }
+// A column of a list of them; past its end the empty one. A name of its own, by which other contracts speak of it.
+pub fn column_at(columns: &[Column], i: usize) -> Column
+    ensures { result ≡ slice_index_or columns.now i no_column }
 {
-    if 8 <= i {
-        return no_column();
-    }
-    columns[i]
+    columns.get(i).copied().unwrap_or(no_column())
 }
 
+// What stands in an array behind the last one.
 pub fn no_relation() -> Relation
     ensures { result ≡ no_relation }
 {
-    let columns = [no_column(); 8];
     Relation {
         site: 0,
         column_count: 0,
         rows: 0,
-        columns: columns,
+        columns: [no_column(); 8],
     }
 }
 
-// A size of an array of them; 0 past its end.
-fn size_at(sizes: [u32; 16], i: usize) -> u32
-    ensures { result ≡ slice_index sizes i }
+// The distinct count of a column: from 1, or from 0 without rows, to the rows and the domain's size, which is 0 past the sizes.
+fn read_distinct(
+    s: &[u8],
+    at: usize,
+    rows: u32,
+    sizes: &[u32],
+    domain: usize,
+) -> Result<(u32, usize), Refusal>
+    ensures { result ≡ read_of (number_in 4 (min 1 rows) (min rows (slice_index sizes.now domain)) s.now at) }
 {
-    if 16 <= i {
-        return 0;
-    }
-    sizes[i]
+    let size = sizes.get(domain).copied().unwrap_or(0);
+    fields::numbers::number_in(s, at, Width::Four, rows.min(1), rows.min(size))
 }
 
-// The distinct count of a column: from 1, or from 0 without rows, to the rows and the domain's size.
-fn read_distinct(s: &[u8], at: usize, rows: u32, sizes: [u32; 16], domain: usize) -> NumberRead
-    ensures { result ≡ shown_number (number_in 4 (min 1 rows) (min rows (slice_index sizes domain)) s.now at) }
+fn read_column(
+    s: &[u8],
+    at: usize,
+    count: u8,
+    sizes: &[u32],
+    rows: u32,
+) -> Result<(Column, usize), Refusal>
+    ensures { result ≡ read_of (column_at count sizes.now rows s.now at) }
 {
-    let size = size_at(sizes, domain);
-    fields::numbers::number_in(s, at, Width::Four, least(1, rows), least(rows, size))
-}
-
-fn read_column(s: &[u8], at: usize, count: u8, sizes: [u32; 16], rows: u32) -> ColumnRead
-    ensures { result ≡ shown_column (column_at count sizes rows s.now at) }
-{
-    match fields::numbers::number_below(s, at, Width::One, count as u32) {
-        NumberRead::Not { number, position } => ColumnRead::Not { number, position },
-        NumberRead::Is(domain, p) => match fields::numbers::number_in(s, p, Width::One, 1, 255) {
-            NumberRead::Not { number, position } => ColumnRead::Not { number, position },
-            NumberRead::Is(width, q) => {
-                let d = domain as usize;
-                match read_distinct(s, q, rows, sizes, d) {
-                    NumberRead::Not { number, position } => ColumnRead::Not { number, position },
-                    NumberRead::Is(distinct, u) => ColumnRead::Is(
-                        Column {
-                            domain: domain as u8,
-                            width: width as u8,
-                            distinct: distinct,
-                        },
-                        u,
-                    ),
-                }
-            }
-        },
-    }
-}
-
-fn refused_relation(number: u8, position: usize) -> RelationRead
-    ensures { result ≡ shown_relation (bad number position) }
-{
-    let relation = no_relation();
-    RelationRead {
-        verdict: Verdict::Refused { number, position },
-        next: 0,
-        relation: relation,
-    }
+    let (domain, p) = fields::numbers::number_below(s, at, Width::One, count as u32)?;
+    let (width, q) = fields::numbers::number_in(s, p, Width::One, 1, 255)?;
+    let (distinct, end) = read_distinct(s, q, rows, sizes, domain as usize)?;
+    let column = Column {
+        domain: domain as u8,
+        width: width as u8,
+        distinct,
+    };
+    Ok((column, end))
 }
 
 // The columns of a relation whose site, count and rows were read.
@@ -141,67 +127,36 @@ fn read_columns(
     s: &[u8],
     at: usize,
     count: u8,
-    sizes: [u32; 16],
+    sizes: &[u32],
     site: u8,
     columns: u8,
     rows: u32,
-) -> RelationRead
+) -> Result<(Relation, usize), Refusal>
     requires { columns ≤ 8 }
-    ensures { result ≡ shown_relation (columns_then count sizes s.now site columns rows at) }
+    ensures { result ≡ read_of (columns_then count sizes.now s.now site columns rows at) }
 {
-    let mut out = [no_column(); 8];
-    let mut i: usize = 0;
-    let mut p = at;
-    let end = columns as usize;
-    while i < end {
-        match read_column(s, p, count, sizes, rows) {
-            ColumnRead::Not { number, position } => {
-                return refused_relation(number, position);
-            }
-            ColumnRead::Is(column, next) => {
-                out[i] = column;
-                i += 1;
-                p = next;
-            }
-        }
-    }
-    RelationRead {
-        verdict: Verdict::Taken,
-        next: p,
-        relation: Relation {
-            site: site,
-            column_count: columns,
-            rows: rows,
-            columns: out,
-        },
-    }
+    let (all, end) = read_many(columns as usize, at, no_column(), |p| {
+        read_column(s, p, count, sizes, rows)
+    })?;
+    let relation = Relation {
+        site,
+        column_count: columns,
+        rows,
+        columns: all,
+    };
+    Ok((relation, end))
 }
 
-pub fn read_relation(s: &[u8], at: usize, count: u8, sizes: [u32; 16]) -> RelationRead
-    ensures { result ≡ shown_relation (relation_at count sizes s.now at) }
+pub fn read_relation(
+    s: &[u8],
+    at: usize,
+    count: u8,
+    sizes: &[u32],
+) -> Result<(Relation, usize), Refusal>
+    ensures { result ≡ read_of (relation_at count sizes.now s.now at) }
 {
-    match fields::numbers::number_in(s, at, Width::One, 0, 7) {
-        NumberRead::Not { number, position } => refused_relation(number, position),
-        NumberRead::Is(site, p) => match fields::numbers::number_in(s, p, Width::One, 1, 8) {
-            NumberRead::Not { number, position } => refused_relation(number, position),
-            NumberRead::Is(columns, q) => match fields::numbers::number_in(
-                s,
-                q,
-                Width::Four,
-                0,
-                1000000,
-            ) {
-                NumberRead::Not { number, position } => refused_relation(number, position),
-                NumberRead::Is(rows, u) => read_columns(
-                    s,
-                    u,
-                    count,
-                    sizes,
-                    site as u8,
-                    columns as u8,
-                    rows,
-                ),
-            },
-        },
-    }
+    let (site, p) = fields::numbers::number_in(s, at, Width::One, 0, 7)?;
+    let (columns, q) = fields::numbers::number_in(s, p, Width::One, 1, 8)?;
+    let (rows, start) = fields::numbers::number_in(s, q, Width::Four, 0, 1000000)?;
+    read_columns(s, start, count, sizes, site as u8, columns as u8, rows)
 }

@@ -12,7 +12,7 @@ use Rattle.ground.specs.Bytes.{bytes_of}
 use Rattle.ground.specs.Outcome.Outcome.{good}
 use Rattle.ground.proofs.EveryLaws.{every_map, every_take, every_back}
 use Rattle.ground.proofs.ByteLaws.{number_tells, each_tells, all_tell}
-use Rattle.fields.specs.declared.puts.Written.TheVariants.{Length}
+use Rattle.std.specs.Prelude.{Ok}
 use Rattle.fields.proofs.PutLaws.{written_back}
 use Rattle.entries.specs.Relations.{columns_of, relation_bytes}
 use Rattle.entries.specs.Places.{place_bytes}
@@ -186,7 +186,7 @@ check_exact e f p h = (sound, complete)
     complete (w, is, end) = rw (is, end) (check_complete e w)
 
 -- What the writer leaves in the buffer, as far as the length that it answers, reads as the envelope that was written.
-pub envelope_written_back : (e : Envelope) → Fits e → (out : List ℕ) (n : ℕ) → envelope_written e out ≡ Length n
+pub envelope_written_back : (e : Envelope) → Fits e → (out : List ℕ) (n : ℕ) → envelope_written e out ≡ Ok n
     → read_envelope (take n (envelope_written_in e out)) ≡ good (tidy e) n
 unfolding check_envelope write_envelope_of
 envelope_written_back e fits out n w =

@@ -11,7 +11,7 @@ use Rattle.ground.specs.Tests.{pick}
 use Rattle.ground.specs.Lists.{padded}
 use Rattle.ground.specs.Bytes.{bytes_of}
 use Rattle.ground.proofs.CollectingLaws.{padded_inside}
-use Rattle.fields.specs.Refusals.{two_domains, same_column}
+use Rattle.ground.specs.declared.refusals.Reason.TheVariants.{TwoDomains, SameColumn}
 use Rattle.fields.specs.Exact.{Exact}
 use Rattle.fields.proofs.ExactReading.{chained, done, refused, picked, restated}
 use Rattle.fields.proofs.ExactNumbers.{number_exact, in_exact}
@@ -98,9 +98,9 @@ module _ (size : ℕ) (relations : List Relation) (small : length relations ≤ 
       rw (domain_padded size relations a ha, domain_padded size relations b hb)
       (picked s at (eqb (domain_of relations a) (domain_of relations b))
       (λ d. picked s at (same_place a b)
-      (λ e. refused s at same_column start (λ c p h. true≢false (sym e ∙ h.1)))
+      (λ e. refused s at SameColumn start (λ c p h. true≢false (sym e ∙ h.1)))
       (λ e. restated s at (λ _ _ _. refl) (λ c p h. (eqb-true _ _ d, e, h)) (λ c p h. h.2) (done s at (clause (Join a b)))))
-      (λ d. refused s at two_domains start (λ c p h. eqb-false _ _ d h.0)))
+      (λ d. refused s at TwoDomains start (λ c p h. eqb-false _ _ d h.0)))
 
   join_exact : (start at : ℕ)
       → Exact s at (join_at (length relations) (padded size no_relation relations) s start at) (λ c. behind c.kind) (Of 2)

@@ -16,7 +16,7 @@ use Rattle.ground.proofs.EveryLaws.{every_map, every_both, map_fixed, fixed_map}
 use Rattle.ground.proofs.SearchingLaws.{past_none, none_past}
 use Rattle.ground.proofs.CollectingLaws.{padded_take}
 use Rattle.ground.proofs.OutcomeLaws.{next_next}
-use Rattle.fields.specs.Refusals.{left_over, no_kept_column}
+use Rattle.ground.specs.declared.refusals.Reason.TheVariants.{LeftOver, NoKeptColumn}
 use Rattle.fields.specs.Numbers.{number_in}
 use Rattle.fields.specs.Exact.{Reads, Exact}
 use Rattle.fields.proofs.ExactReading.{done, refused, picked, restated, last, whole_paper, chained}
@@ -25,7 +25,7 @@ use Rattle.entries.specs.Relations.{no_relation, relation_at, relation_bytes}
 use Rattle.entries.specs.Places.{no_place, place_at, place_bytes}
 use Rattle.entries.specs.Clauses.{no_clause, clause_at, clause_bytes}
 use Rattle.contents.specs.Parts.{sizes_of, relations_of, clauses_of, targets_of, relation_count, no_envelope, with_version, with_sizes, with_relations, with_clauses, with_targets}
-use Rattle.contents.specs.Kept.{kept_columns, first_bare, shown_bare}
+use Rattle.contents.specs.Kept.{kept_columns, first_bare, lowest_bare}
 use Rattle.envelopes.specs.Envelope.{CPN, filled, list_into, size_at, bare_outcome, ended, targets_then, clauses_then, relations_then, sizes_then, envelope_from, read_envelope, envelope_bytes, check_envelope}
 use Rattle.envelopes.specs.Rules.{Between, RelationWithin, PlaceWithin, ClauseWithin, Within, tidy_relation, tidy}
 use Rattle.entries.specs.declared.places.Place.{Place}
@@ -43,12 +43,12 @@ use Rattle.envelopes.proofs.TidyLaws.{made, tidy_is, tidy_relations, tidy_bytes,
 
 -- each relation has a kept column
 bare_exact : (s : List ℕ) (at : ℕ) (e : Envelope)
-    → Exact s at (bare_outcome (shown_bare e) e at) (λ _. [])
+    → Exact s at (bare_outcome (lowest_bare e) e at) (λ _. [])
     (λ c. (c ≡ e) × (relation_count c ≤ first_bare c))
 bare_exact s at e =
     rw (bare_picked (ltb (first_bare e) (relation_count e)) (first_bare e) e at)
     (picked s at (ltb (first_bare e) (relation_count e))
-    (λ b. refused s at no_kept_column (first_bare e) (λ c p h. less (rw h.0 at h.1) (ltb-true _ _ b)))
+    (λ b. refused s at NoKeptColumn (first_bare e) (λ c p h. less (rw h.0 at h.1) (ltb-true _ _ b)))
     (λ b. restated s at (λ _ _ _. refl) (λ c p h. (h, rw h (ltb-false (first_bare e) (relation_count e) b))) (λ c p h. h.0) (done s at e)))
   where
     less : relation_count e ≤ first_bare e → first_bare e < relation_count e → ⊥
@@ -57,7 +57,7 @@ bare_exact s at e =
 ended_reads : (s : List ℕ) (at : ℕ) (e : Envelope)
     → Reads s at (ended s at e) (λ _. []) (λ c q. ((c ≡ e) × (relation_count c ≤ first_bare c)) × (length s ≤ q))
 unfolding ended
-ended_reads s at e = last s at left_over (bare_exact s at e)
+ended_reads s at e = last s at LeftOver (bare_exact s at e)
 
 -- ---- the paper
 

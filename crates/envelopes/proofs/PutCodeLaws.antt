@@ -1,11 +1,10 @@
 -- The laws of writing an envelope: the bytes of its parts put one after the other are its bytes, and how many they are.
-use mathlib.Core.Path.{◌≡◌, refl, ap, subst, ◌∙◌}
+use mathlib.Core.Path.{◌≡◌, ap, ◌∙◌}
 use mathlib.Core.List.{List, [], ◌∷◌, ◌++◌, append_assoc}
 use Prim.Native.Nat.{ℕ, zero, suc, zero-le, ◌+◌, ◌*◌, ◌≤◌}
-use native.Mathlib.Numerals.{add-one, add-two, add-three, add_six}
 use native.Mathlib.Nat.{mul-suc}
 use native.Mathlib.Omega.{arith}
-use lib.ListN.{length, take, length-append}
+use lib.ListN.{length, take, length-append, length-take}
 use lib.Seq.{sets}
 use Rattle.ground.specs.Lists.{each, Every}
 use Rattle.ground.specs.Bytes.{bytes_of}
@@ -20,79 +19,10 @@ use Rattle.envelopes.specs.Envelope.{CPN, envelope_bytes}
 use Rattle.entries.specs.declared.places.Place.{Place}
 use Rattle.entries.specs.declared.relations.Column.{Column}
 use Rattle.entries.specs.declared.relations.Relation.{Relation}
+use Rattle.entries.specs.declared.clauses.Clause.{Clause}
 use Rattle.entries.specs.declared.clauses.ClauseKind.{ClauseKind}
 use Rattle.entries.specs.declared.clauses.ClauseKind.TheVariants.{Selection, Join}
 use Rattle.contents.specs.declared.envelope.Envelope.{Envelope}
-
--- ---- parts of a fixed length
-
-pub place_long : (at : ℕ) (x : Place) → at + 2 ≡ at + length (place_bytes x)
-unfolding place_bytes bytes_of
-place_long at x = refl
-
-pub put_place : (o : List ℕ) (at : ℕ) (x : Place) (a b : List ℕ) → a ≡ sets o at (bytes_of 1 x.relation)
-    → b ≡ sets a (at + 1) (bytes_of 1 x.column) → b ≡ sets o at (place_bytes x)
-unfolding place_bytes bytes_of
-put_place o at x a b e f = f ∙ simp (e, add-one)
-
-pub column_long : (at : ℕ) (x : Column) → at + 6 ≡ at + length (column_bytes x)
-unfolding column_bytes bytes_of
-column_long at x = refl
-
-pub put_column : (o : List ℕ) (at : ℕ) (x : Column) (a b c : List ℕ) → a ≡ sets o at (bytes_of 1 x.domain)
-    → b ≡ sets a (at + 1) (bytes_of 1 x.width) → c ≡ sets b (at + 2) (bytes_of 4 x.distinct) → c ≡ sets o at (column_bytes x)
-unfolding column_bytes bytes_of
-put_column o at x a b c e f g = g ∙ simp (f, e, add-one, add-two)
-
-pub size_long : (at v : ℕ) → at + 4 ≡ at + length (bytes_of 4 v)
-unfolding bytes_of
-size_long at v = refl
-
-module _ (at : ℕ) (k : ClauseKind) (x : Place) where
-  module _ (v : ℕ) (s : k ≡ Selection x v) where
-    pub selection_long : at + 7 ≡ at + length (kind_bytes k)
-    unfolding kind_bytes place_bytes bytes_of
-    selection_long = simp s
-
-    pub put_selection : (o a b c : List ℕ) → a ≡ sets o at (bytes_of 1 1) → b ≡ sets a (at + 1) (place_bytes x)
-        → c ≡ sets b (at + 3) (bytes_of 4 v) → c ≡ sets o at (kind_bytes k)
-    unfolding kind_bytes place_bytes bytes_of
-    put_selection o a b c e f g = g ∙ simp (s, f, e, add-one, add-three)
-
-  module _ (y : Place) (s : k ≡ Join x y) where
-    pub join_long : at + 5 ≡ at + length (kind_bytes k)
-    unfolding kind_bytes place_bytes bytes_of
-    join_long = simp s
-
-    pub put_join : (o a b c : List ℕ) → a ≡ sets o at (bytes_of 1 2) → b ≡ sets a (at + 1) (place_bytes x)
-        → c ≡ sets b (at + 3) (place_bytes y) → c ≡ sets o at (kind_bytes k)
-    unfolding kind_bytes place_bytes bytes_of
-    put_join o a b c e f g = g ∙ simp (s, f, e, add-one, add-three)
-
--- ---- a relation
-
-module _ (at : ℕ) (x : Relation) where
-  pub relation_long : (r : ℕ) → r ≡ at + 6 + length (each column_bytes (take x.column_count x.columns))
-      → r ≡ at + length (relation_bytes x)
-  unfolding relation_bytes columns_of bytes_of
-  relation_long r e = omega arith
-
-  pub put_relation : (o a b c d : List ℕ) → a ≡ sets o at (bytes_of 1 x.site) → b ≡ sets a (at + 1) (bytes_of 1 x.column_count)
-      → c ≡ sets b (at + 2) (bytes_of 4 x.rows) → d ≡ sets c (at + 6) (each column_bytes (take x.column_count x.columns))
-      → d ≡ sets o at (relation_bytes x)
-  unfolding relation_bytes columns_of bytes_of
-  put_relation o a b c d e f g h = h ∙ simp (g, f, e, add-one, add-two, add_six)
-
--- ---- a count of one byte in front
-
-module _ (at n r : ℕ) (b : List ℕ) where
-  pub count_long : r ≡ at + 1 + length b → r ≡ at + length (bytes_of 1 n ++ b)
-  unfolding bytes_of
-  count_long e = omega arith
-
-  pub put_count : (o m t : List ℕ) → m ≡ sets o at (bytes_of 1 n) → t ≡ sets m (at + 1) b → t ≡ sets o at (bytes_of 1 n ++ b)
-  unfolding bytes_of
-  put_count o m t e f = f ∙ simp (e, add-one)
 
 -- ---- the whole envelope, part behind part
 
@@ -105,35 +35,78 @@ module _ (e : Envelope) where
   head_part = CPN ++ bytes_of 2 e.version
 
   abbrev domain_part : List ℕ
-  domain_part = bytes_of 1 e.domain_count ++ each (bytes_of 4) (take e.domain_count e.sizes)
+  domain_part = bytes_of 1 e.domain_count ++ each (bytes_of 4) (sizes_of e)
 
   abbrev relation_part : List ℕ
-  relation_part = bytes_of 1 e.relation_count ++ each relation_bytes (take e.relation_count e.relations)
+  relation_part = bytes_of 1 e.relation_count ++ each relation_bytes (relations_of e)
 
   abbrev clause_part : List ℕ
-  clause_part = bytes_of 1 e.clause_count ++ each clause_bytes (take e.clause_count e.clauses)
+  clause_part = bytes_of 1 e.clause_count ++ each clause_bytes (clauses_of e)
 
   abbrev target_part : List ℕ
-  target_part = bytes_of 1 e.target_count ++ each place_bytes (take e.target_count e.targets)
+  target_part = bytes_of 1 e.target_count ++ each place_bytes (targets_of e)
 
   parts : head_part ++ domain_part ++ relation_part ++ clause_part ++ target_part ≡ envelope_bytes e
-  unfolding envelope_bytes sizes_of relations_of clauses_of targets_of
+  unfolding envelope_bytes
   parts =
       pairs head_part
-      (bytes_of 1 e.domain_count) (each (bytes_of 4) (take e.domain_count e.sizes))
-      (bytes_of 1 e.relation_count) (each relation_bytes (take e.relation_count e.relations))
-      (bytes_of 1 e.clause_count) (each clause_bytes (take e.clause_count e.clauses))
-      (bytes_of 1 e.target_count) (each place_bytes (take e.target_count e.targets))
+      (bytes_of 1 e.domain_count) (each (bytes_of 4) (sizes_of e))
+      (bytes_of 1 e.relation_count) (each relation_bytes (relations_of e))
+      (bytes_of 1 e.clause_count) (each clause_bytes (clauses_of e))
+      (bytes_of 1 e.target_count) (each place_bytes (targets_of e))
 
-  pub put_envelope : (o a b c d t : List ℕ) (p q u v r : ℕ) → Fronts o 5 head_part p a → Puts a p 65 domain_part q b
-      → Puts b q 433 relation_part u c → Puts c u 85 clause_part v d → Puts d v 33 target_part r t
-      → Fronts o 621 (envelope_bytes e) r t
-  put_envelope o a b c d t p q u v r head domains relations clauses targets =
-      subst (λ (l : List ℕ). Fronts o 621 l r t) parts
-      (then_put o d t v r 588 33 (head_part ++ domain_part ++ relation_part ++ clause_part) target_part
-      (then_put o c d u v 503 85 (head_part ++ domain_part ++ relation_part) clause_part
-      (then_put o b c q u 70 433 (head_part ++ domain_part) relation_part
-      (then_put o a b p q 5 65 head_part domain_part head domains) relations) clauses) targets)
+  -- no list has more than its array
+  module _ (l : List ℕ) (h : l ≡ sizes_of e) (long : length e.sizes ≡ 16) where
+    pub few_sizes : length l ≤ 16
+    unfolding sizes_of
+    few_sizes = omega (arith, ap length h, length-take e.domain_count e.sizes)
+
+  module _ (l : List Relation) (h : l ≡ relations_of e) (long : length e.relations ≡ 8) where
+    pub few_relations : length l ≤ 8
+    unfolding relations_of
+    few_relations = omega (arith, ap length h, length-take e.relation_count e.relations)
+
+  module _ (l : List Clause) (h : l ≡ clauses_of e) (long : length e.clauses ≡ 12) where
+    pub few_clauses : length l ≤ 12
+    unfolding clauses_of
+    few_clauses = omega (arith, ap length h, length-take e.clause_count e.clauses)
+
+  module _ (l : List Place) (h : l ≡ targets_of e) (long : length e.targets ≡ 16) where
+    pub few_targets : length l ≤ 16
+    unfolding targets_of
+    few_targets = omega (arith, ap length h, length-take e.target_count e.targets)
+
+  module _ (zs : List ℕ) (rs : List Relation) (cs : List Clause) (ts : List Place) (hz : zs ≡ sizes_of e) (hr : rs ≡ relations_of e)
+      (hc : cs ≡ clauses_of e) (ht : ts ≡ targets_of e) where
+    abbrev zb : List ℕ
+    zb = bytes_of 1 e.domain_count ++ each (bytes_of 4) zs
+
+    abbrev rb : List ℕ
+    rb = bytes_of 1 e.relation_count ++ each relation_bytes rs
+
+    abbrev cb : List ℕ
+    cb = bytes_of 1 e.clause_count ++ each clause_bytes cs
+
+    abbrev tb : List ℕ
+    tb = bytes_of 1 e.target_count ++ each place_bytes ts
+
+    same : head_part ++ zb ++ rb ++ cb ++ tb ≡ envelope_bytes e
+    same = rw (hz, hr, hc, ht) parts
+
+    pub put_envelope : (o a b c d t : List ℕ) (p q u v r : ℕ)
+        → length zs ≤ 16 → length rs ≤ 8 → length cs ≤ 12 → length ts ≤ 16 → Fronts o 5 head_part p a
+        → Puts a p (1 + 4 * length zs) zb q b → Puts b q (1 + 54 * length rs) rb u c → Puts c u (1 + 7 * length cs) cb v d
+        → Puts d v (1 + 2 * length ts) tb r t → Fronts o 621 (envelope_bytes e) r t
+    put_envelope o a b c d t p q u v r few_z few_r few_c few_t head domains relations clauses targets =
+        let first : Fronts o (5 + (1 + 4 * length zs)) (head_part ++ zb) q b = then_put o a b p q 5 (1 + 4 * length zs) head_part zb head domains in
+        let second : Fronts o (5 + (1 + 4 * length zs) + (1 + 54 * length rs)) (head_part ++ zb ++ rb) u c =
+        then_put o b c q u (5 + (1 + 4 * length zs)) (1 + 54 * length rs) (head_part ++ zb) rb first relations in
+        let third : Fronts o (5 + (1 + 4 * length zs) + (1 + 54 * length rs) + (1 + 7 * length cs)) (head_part ++ zb ++ rb ++ cb) v d =
+        then_put o c d u v (5 + (1 + 4 * length zs) + (1 + 54 * length rs)) (1 + 7 * length cs) (head_part ++ zb ++ rb) cb second clauses in
+        let (long, put, near) =
+        then_put o d t v r (5 + (1 + 4 * length zs) + (1 + 54 * length rs) + (1 + 7 * length cs)) (1 + 2 * length ts)
+        (head_part ++ zb ++ rb ++ cb) tb third targets in
+        (long ∙ ap length same, put ∙ ap (λ (l : List ℕ). sets o 0 l) same, omega (arith, near))
 
 -- ---- how long an envelope is at most
 
@@ -178,7 +151,7 @@ relation_most x e = let m = all_most column_bytes 6 column_most x.column_count x
 pub envelope_most : (e : Envelope) → length e.sizes ≡ 16 → length e.relations ≡ 8
     → Every (λ (x : Relation). length x.columns ≡ 8) e.relations → length e.clauses ≡ 12 → length e.targets ≡ 16
     → length (envelope_bytes e) ≤ 621
-unfolding bytes_of
+unfolding bytes_of sizes_of relations_of clauses_of targets_of
 envelope_most e sizes relations columns clauses targets =
     let a = all_most (bytes_of 4) 4 size_most e.domain_count e.sizes in
     let b = each_most Eight relation_bytes 54 relation_most e.relation_count e.relations columns in

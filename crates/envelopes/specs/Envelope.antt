@@ -2,26 +2,22 @@
 -- 1; per relation ..; clause count, 1; clauses; target count, 1; targets as relation 1, column 1."
 -- "Domains 1 to 16, each of size 1 to 16,777,215. Relations 1 to 8 .. Clauses 0 to 12, target columns 1 to 16."
 -- "Papers are checked field by field as they stand, then 7, then 9."
-use Rattle.std.specs.Prelude.{ℕ, List, [], ◌∷◌, ◌++◌, length, nat_lt}
+use Rattle.std.specs.Prelude.{Result, Option, Some, None, ℕ, List, [], ◌∷◌, ◌++◌, length, nat_lt}
 use Rattle.ground.specs.Tests.{pick}
 use Rattle.ground.specs.Lists.{each}
-use Rattle.ground.specs.Outcome.{Outcome, next, many, verdict_of, next_of, value_of}
+use Rattle.ground.specs.Outcome.{Outcome, next, many}
 use Rattle.ground.specs.Outcome.Outcome.{good, bad}
 use Rattle.ground.specs.Bytes.{bytes_of}
-use Rattle.fields.specs.Refusals.{left_over, no_kept_column}
+use Rattle.ground.specs.declared.refusals.Reason.TheVariants.{LeftOver, NoKeptColumn}
+use Rattle.ground.specs.declared.refusals.Refusal.{Refusal}
 use Rattle.fields.specs.Numbers.{number_in, head_of}
 use Rattle.fields.specs.Puts.{fitted, written_of, written_in}
-use Rattle.fields.specs.declared.puts.Written.{Written}
 use Rattle.entries.specs.Relations.{relation_at, relation_bytes}
 use Rattle.entries.specs.Places.{place_at, place_bytes}
 use Rattle.entries.specs.Clauses.{clause_at, clause_bytes}
 use Rattle.contents.specs.Parts.{sizes_of, relations_of, clauses_of, targets_of, no_envelope, with_version, with_sizes, with_relations, with_clauses, with_targets}
-use Rattle.contents.specs.Kept.{shown_bare}
+use Rattle.contents.specs.Kept.{lowest_bare}
 use Rattle.contents.specs.declared.envelope.Envelope.{Envelope}
-use Rattle.contents.specs.declared.kept.Bare.{Bare}
-use Rattle.contents.specs.declared.kept.Bare.TheVariants.{Lowest, None}
-use Rattle.envelopes.specs.declared.sections.EnvelopePart.{EnvelopePart}
-use Rattle.envelopes.specs.declared.reading.EnvelopeRead.{EnvelopeRead}
 
 -- ---- the paper, read
 
@@ -53,13 +49,13 @@ abbrev pub CPN : List ℕ
 CPN = 67 ∷ 80 ∷ 78 ∷ []
 
 -- 9 with the lowest relation that has no kept column, or the envelope
-abbrev pub bare_outcome : Bare → Envelope → ℕ → Outcome Envelope
-bare_outcome (Lowest r) e at = bad no_kept_column r
+abbrev pub bare_outcome : Option ℕ → Envelope → ℕ → Outcome Envelope
+bare_outcome (Some r) e at = bad NoKeptColumn r
 bare_outcome None e at = good e at
 
 -- nothing may be left over, then each relation has a kept column
 unfoldable pub ended : List ℕ → ℕ → Envelope → Outcome Envelope
-ended s at e = pick (nat_lt at (length s)) (bad left_over at) (bare_outcome (shown_bare e) e at)
+ended s at e = pick (nat_lt at (length s)) (bad LeftOver at) (bare_outcome (lowest_bare e) e at)
 
 -- the parts one after the other, each with what follows it
 unfoldable pub targets_then : List ℕ → ℕ → Envelope → Outcome Envelope
@@ -99,16 +95,8 @@ check_envelope e = read_envelope (envelope_bytes e)
 unfoldable pub write_envelope_of : Envelope → ℕ → Outcome (List ℕ)
 write_envelope_of e room = next (check_envelope e) (λ _ _. fitted room (envelope_bytes e))
 
-abbrev pub envelope_written : Envelope → List ℕ → Written
+abbrev pub envelope_written : Envelope → List ℕ → Result ℕ Refusal
 envelope_written e out = written_of (write_envelope_of e (length out))
 
 abbrev pub envelope_written_in : Envelope → List ℕ → List ℕ
 envelope_written_in e out = written_in out (write_envelope_of e (length out))
-
--- ---- what the functions answer
-
-abbrev pub shown_part : Outcome Envelope → EnvelopePart
-shown_part o = record { verdict = verdict_of o; next = next_of o; envelope = value_of no_envelope o }
-
-abbrev pub shown_envelope : Outcome Envelope → EnvelopeRead
-shown_envelope o = record { verdict = verdict_of o; envelope = value_of no_envelope o }

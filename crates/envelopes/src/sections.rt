@@ -1,211 +1,84 @@
 // The envelope's parts read one by one, each put into the envelope that came so far.
-ghost use Rattle.std.specs.Prelude.{◌≡◌, ◌≤◌};
-ghost use Rattle.ground.specs.Outcome.Outcome.{bad};
-ghost use Rattle.entries.specs.Relations.{relation_at};
-ghost use Rattle.entries.specs.Places.{place_at};
-ghost use Rattle.entries.specs.Clauses.{clause_at};
-ghost use Rattle.contents.specs.Parts.{
-  with_sizes,
-  with_relations,
-  with_clauses,
-  with_targets,
-};
-ghost use Rattle.envelopes.specs.Envelope.{
-  size_at,
-  filled,
-  sizes_into,
-  relations_into,
-  clauses_into,
-  targets_into,
-  shown_part,
-};
+ghost use Rattle.std.specs.Prelude.{◌≡◌};
+ghost use Rattle.ground.specs.Outcome.{read_of};
+ghost use Rattle.envelopes.specs.Envelope.{sizes_into, relations_into, clauses_into, targets_into};
 
 use contents::envelope::Envelope;
-use entries::clauses::ClauseRead;
-use entries::places::PlaceRead;
-use fields::numbers::{NumberRead, Width};
-use ground::Verdict;
+use fields::lists::read_list;
+use fields::numbers::Width;
+use ground::refusals::Refusal;
 
-// An envelope that is being read: what stands up to next, or the refusal with the empty envelope beside it.
-#[derive(Clone, Copy)]
-pub struct EnvelopePart {
-    pub verdict: Verdict,
-    pub next: usize,
-    pub envelope: Envelope,
+pub(crate) fn read_sizes(
+    s: &[u8],
+    at: usize,
+    envelope: Envelope,
+) -> Result<(Envelope, usize), Refusal>
+    ensures { result ≡ read_of (sizes_into s.now at envelope) }
+{
+    let ((domain_count, sizes), end) = read_list(s, at, 1, 0, |p| {
+        fields::numbers::number_in(s, p, Width::Four, 1, 16777215)
+    })?;
+    let more = Envelope {
+        domain_count,
+        sizes,
+        ..envelope
+    };
+    Ok((more, end))
 }
 
-fn refused_part(number: u8, position: usize) -> EnvelopePart
-    ensures { result ≡ shown_part (bad number position) }
+pub(crate) fn read_relations(
+    s: &[u8],
+    at: usize,
+    envelope: Envelope,
+) -> Result<(Envelope, usize), Refusal>
+    ensures { result ≡ read_of (relations_into s.now at envelope) }
 {
-    let envelope = contents::envelope::no_envelope();
-    EnvelopePart {
-        verdict: Verdict::Refused { number, position },
-        next: 0,
-        envelope: envelope,
-    }
+    let empty = entries::relations::no_relation();
+    let ((relation_count, relations), end) = read_list(s, at, 1, empty, |p| {
+        entries::relations::read_relation(s, p, envelope.domain_count, &envelope.sizes)
+    })?;
+    let more = Envelope {
+        relation_count,
+        relations,
+        ..envelope
+    };
+    Ok((more, end))
 }
 
-fn fill_sizes(s: &[u8], at: usize, envelope: Envelope, n: u8) -> EnvelopePart
-    requires { n ≤ 16 }
-    ensures { result ≡ shown_part (filled with_sizes (size_at s.now) n at envelope) }
+pub(crate) fn read_clauses(
+    s: &[u8],
+    at: usize,
+    envelope: Envelope,
+) -> Result<(Envelope, usize), Refusal>
+    ensures { result ≡ read_of (clauses_into s.now at envelope) }
 {
-    let mut out = [0u32; 16];
-    let mut i: usize = 0;
-    let mut p = at;
-    let end = n as usize;
-    while i < end {
-        match fields::numbers::number_in(s, p, Width::Four, 1, 16777215) {
-            NumberRead::Not { number, position } => {
-                return refused_part(number, position);
-            }
-            NumberRead::Is(size, next) => {
-                out[i] = size;
-                i += 1;
-                p = next;
-            }
-        }
-    }
-    let mut more = envelope;
-    more.domain_count = n;
-    more.sizes = out;
-    EnvelopePart {
-        verdict: Verdict::Taken,
-        next: p,
-        envelope: more,
-    }
+    let empty = entries::clauses::no_clause();
+    let ((clause_count, clauses), end) = read_list(s, at, 0, empty, |p| {
+        entries::clauses::read_clause(s, p, envelope.relation_count, &envelope.relations)
+    })?;
+    let more = Envelope {
+        clause_count,
+        clauses,
+        ..envelope
+    };
+    Ok((more, end))
 }
 
-pub(crate) fn read_sizes(s: &[u8], at: usize, envelope: Envelope) -> EnvelopePart
-    ensures { result ≡ shown_part (sizes_into s.now at envelope) }
+pub(crate) fn read_targets(
+    s: &[u8],
+    at: usize,
+    envelope: Envelope,
+) -> Result<(Envelope, usize), Refusal>
+    ensures { result ≡ read_of (targets_into s.now at envelope) }
 {
-    match fields::numbers::number_in(s, at, Width::One, 1, 16) {
-        NumberRead::Not { number, position } => refused_part(number, position),
-        NumberRead::Is(n, p) => fill_sizes(s, p, envelope, n as u8),
-    }
-}
-
-fn fill_relations(s: &[u8], at: usize, envelope: Envelope, n: u8) -> EnvelopePart
-    requires { n ≤ 8 }
-    ensures { result ≡ shown_part (filled with_relations (relation_at envelope.domain_count envelope.sizes s.now) n at envelope) }
-{
-    let count = envelope.domain_count;
-    let sizes = envelope.sizes;
-    let mut out = [entries::relations::no_relation(); 8];
-    let mut i: usize = 0;
-    let mut p = at;
-    let end = n as usize;
-    while i < end {
-        let read = entries::relations::read_relation(s, p, count, sizes);
-        let verdict = read.verdict;
-        match verdict {
-            Verdict::Refused { number, position } => {
-                return refused_part(number, position);
-            }
-            Verdict::Taken => {
-                let relation = read.relation;
-                out[i] = relation;
-                i += 1;
-                p = read.next;
-            }
-        }
-    }
-    let mut more = envelope;
-    more.relation_count = n;
-    more.relations = out;
-    EnvelopePart {
-        verdict: Verdict::Taken,
-        next: p,
-        envelope: more,
-    }
-}
-
-pub(crate) fn read_relations(s: &[u8], at: usize, envelope: Envelope) -> EnvelopePart
-    ensures { result ≡ shown_part (relations_into s.now at envelope) }
-{
-    match fields::numbers::number_in(s, at, Width::One, 1, 8) {
-        NumberRead::Not { number, position } => refused_part(number, position),
-        NumberRead::Is(n, p) => fill_relations(s, p, envelope, n as u8),
-    }
-}
-
-fn fill_clauses(s: &[u8], at: usize, envelope: Envelope, n: u8) -> EnvelopePart
-    requires { n ≤ 12 }
-    ensures { result ≡ shown_part (filled with_clauses (clause_at envelope.relation_count envelope.relations s.now) n at envelope) }
-{
-    let count = envelope.relation_count;
-    let relations = envelope.relations;
-    let mut out = [entries::clauses::no_clause(); 12];
-    let mut i: usize = 0;
-    let mut p = at;
-    let end = n as usize;
-    while i < end {
-        match entries::clauses::read_clause(s, p, count, relations) {
-            ClauseRead::Not { number, position } => {
-                return refused_part(number, position);
-            }
-            ClauseRead::Is(clause, next) => {
-                out[i] = clause;
-                i += 1;
-                p = next;
-            }
-        }
-    }
-    let mut more = envelope;
-    more.clause_count = n;
-    more.clauses = out;
-    EnvelopePart {
-        verdict: Verdict::Taken,
-        next: p,
-        envelope: more,
-    }
-}
-
-pub(crate) fn read_clauses(s: &[u8], at: usize, envelope: Envelope) -> EnvelopePart
-    ensures { result ≡ shown_part (clauses_into s.now at envelope) }
-{
-    match fields::numbers::number_in(s, at, Width::One, 0, 12) {
-        NumberRead::Not { number, position } => refused_part(number, position),
-        NumberRead::Is(n, p) => fill_clauses(s, p, envelope, n as u8),
-    }
-}
-
-fn fill_targets(s: &[u8], at: usize, envelope: Envelope, n: u8) -> EnvelopePart
-    requires { n ≤ 16 }
-    ensures { result ≡ shown_part (filled with_targets (place_at envelope.relation_count envelope.relations s.now) n at envelope) }
-{
-    let count = envelope.relation_count;
-    let relations = envelope.relations;
-    let mut out = [entries::places::no_place(); 16];
-    let mut i: usize = 0;
-    let mut p = at;
-    let end = n as usize;
-    while i < end {
-        match entries::places::read_place(s, p, count, relations) {
-            PlaceRead::Not { number, position } => {
-                return refused_part(number, position);
-            }
-            PlaceRead::Is(place, next) => {
-                out[i] = place;
-                i += 1;
-                p = next;
-            }
-        }
-    }
-    let mut more = envelope;
-    more.target_count = n;
-    more.targets = out;
-    EnvelopePart {
-        verdict: Verdict::Taken,
-        next: p,
-        envelope: more,
-    }
-}
-
-pub(crate) fn read_targets(s: &[u8], at: usize, envelope: Envelope) -> EnvelopePart
-    ensures { result ≡ shown_part (targets_into s.now at envelope) }
-{
-    match fields::numbers::number_in(s, at, Width::One, 1, 16) {
-        NumberRead::Not { number, position } => refused_part(number, position),
-        NumberRead::Is(n, p) => fill_targets(s, p, envelope, n as u8),
-    }
+    let empty = entries::places::no_place();
+    let ((target_count, targets), end) = read_list(s, at, 1, empty, |p| {
+        entries::places::read_place(s, p, envelope.relation_count, &envelope.relations)
+    })?;
+    let more = Envelope {
+        target_count,
+        targets,
+        ..envelope
+    };
+    Ok((more, end))
 }

@@ -21,7 +21,6 @@ use Rattle.estimates.specs.Ready.{Cheap, Bounded}
 use Rattle.estimates.specs.Costs.{plain_costs, priced, step_cost, assembly_at}
 use Rattle.estimates.specs.declared.profiles.Profile.{Profile}
 use Rattle.estimates.specs.declared.costs.Costs.{Costs}
-use Rattle.ground.proofs.NumberingLaws.{Numbering, numbering_done}
 use Rattle.ground.proofs.SummingLaws.{Summing, summing_start, summing_more, summing_done}
 
 -- ---- plain prices
@@ -35,9 +34,9 @@ plain_home k h = simp (eq-eqb (k / 8) (k % 8) h)
 pub plain_away : (k : ℕ) → (k / 8 ≡ k % 8 → ⊥) → 1 ≡ plain_price k
 plain_away k h = simp (ne_eqb (k / 8) (k % 8) h)
 
-pub plain_whole : (i : ℕ) (out : List ℕ) → Numbering 64 0 plain_price i out → 64 ≤ i → ◌≡◌ {A = Costs} (record { prices = out }) plain_costs
+pub plain_whole : (out : List ℕ) → out ≡ map plain_price (below 64) → ◌≡◌ {A = Costs} (record { prices = out }) plain_costs
 unfolding plain_costs
-plain_whole i out t h = rw (numbering_done 64 0 plain_price i out t h)
+plain_whole out h = rw h
 
 -- ---- one transfer
 

@@ -8,14 +8,13 @@ use native.Mathlib.Nat.{le_trans, sub-zero}
 use native.Mathlib.Numerals.{add-one}
 use native.Mathlib.Omega.{arith}
 use lib.ListN.{length, get_or, set, take, drop, drop_of_length-le}
-use lib.Seq.{drop-cons, length-take-le}
+use lib.Seq.{drop-cons}
 use lib.Dec.{eqb}
 use Rattle.ground.specs.Tests.{pick}
 use Rattle.ground.specs.Lists.{below, numbers_from}
-use Rattle.ground.proofs.UsedLaws.{used_inside}
 use Rattle.ground.proofs.CountLaws.{left_suc, left_none}
 use Rattle.ground.proofs.EveryLaws.{every_mapped, every_of}
-use Rattle.ground.proofs.CollectingLaws.{padded_length, padded_take}
+use Rattle.ground.proofs.CollectingLaws.{padded_take}
 use Rattle.entries.specs.Places.{place}
 use Rattle.contents.specs.Parts.{relation_count}
 use Rattle.envelopes.specs.Rules.{Within, tidy}
@@ -26,7 +25,7 @@ use Rattle.paths.specs.Implied.{selected, selections_by, implied_selections, sho
 use Rattle.paths.specs.declared.labels.Labels.{Labels}
 use Rattle.paths.specs.declared.implied.Selected.{Selected}
 use Rattle.paths.specs.declared.implied.Selections.{Selections}
-use Rattle.paths.proofs.ImpliedLaws.{selections_few, selections_by_labels}
+use Rattle.paths.proofs.ImpliedLaws.{selections_by_labels}
 use Rattle.estimates.specs.Division.{over}
 use Rattle.estimates.specs.Profile.{estimated_rows, distinct_of, given, shrunk, after_selection, after_selections, after_relations, local_profile}
 use Rattle.estimates.specs.Ready.{Low}
@@ -84,52 +83,34 @@ selections_small p r (x ∷ l) s =
 
 -- ---- the selections of a relation
 
--- of those in an array i are applied
-pub record Applying (p₀ : Profile) (r : ℕ) (all : List Selected) (end i : ℕ) (p : Profile) : Type 0 where
-  pub within : i ≤ end
-  pub few : end ≤ 96
-  pub long : length all ≡ 96
+-- of those i are applied
+pub record Applying (p₀ : Profile) (r : ℕ) (all : List Selected) (i : ℕ) (p : Profile) : Type 0 where
+  pub within : i ≤ length all
   pub small : Small p
-  pub same : after_selections p₀ r (take end all) ≡ after_selections p r (drop i (take end all))
+  pub same : after_selections p₀ r all ≡ after_selections p r (drop i all)
 
-module _ (p₀ : Profile) (r : ℕ) where
-  pub applying_start : (x : Selections) (l : List Selected) → x ≡ shown_selections l → length l ≤ 96 → Low p₀.rows → Low p₀.counts
-      → Applying p₀ r x.all x.count 0 p₀
-  applying_start x l e h m n =
-      record {
-        within = omega arith;
-        few = rw e h;
-        long = rw e (padded_length 96 (selected 0 0) l h);
-        small = record { rows = m; counts = n };
-        same = refl;
-      }
+module _ (p₀ : Profile) (r : ℕ) (all : List Selected) where
+  pub applying_start : Low p₀.rows → Low p₀.counts → Applying p₀ r all 0 p₀
+  applying_start m n = record { within = omega arith; small = record { rows = m; counts = n }; same = refl }
 
-  module _ (all : List Selected) (end i : ℕ) (p : Profile) (a : Applying p₀ r all end i p) where
-    used : length (take end all) ≡ end
-    used = length-take-le end all (omega (arith, a.few, a.long))
-
-    pub applying_more : i < end → (q : Profile) → q ≡ after_selection p (place r (get_or all i (selected 0 0)).column)
-        → Applying p₀ r all end (i + 1) q
+  module _ (i : ℕ) (p : Profile) (a : Applying p₀ r all i p) where
+    pub applying_more : i < length all → (q : Profile) → q ≡ after_selection p (place r (get_or all i (selected 0 0)).column)
+        → Applying p₀ r all (i + 1) q
     applying_more h q e =
-        let w : get_or all i (selected 0 0) ≡ get_or (take end all) i (selected 0 0) = sym (used_inside all end i (selected 0 0) h) in
-        let f : q ≡ after_selection p (place r (get_or (take end all) i (selected 0 0)).column) = rw w at e in
         record {
           within = omega arith;
-          few = a.few;
-          long = a.long;
           small = rw e (selection_small p (place r (get_or all i (selected 0 0)).column) a.small);
           same =
-              a.same ∙ ap (after_selections p r) (drop-cons (take end all) i (selected 0 0) (omega (arith, used)))
-              ∙ ap (λ (y : Profile). after_selections y r (drop (suc i) (take end all))) (sym f)
-              ∙ ap (λ (m : ℕ). after_selections q r (drop m (take end all))) (sym (add-one i));
+              a.same ∙ ap (after_selections p r) (drop-cons all i (selected 0 0) h)
+              ∙ ap (λ (y : Profile). after_selections y r (drop (suc i) all)) (sym e)
+              ∙ ap (λ (m : ℕ). after_selections q r (drop m all)) (sym (add-one i));
         }
 
-    pub applying_done : end ≤ i → (x : Selections) (l : List Selected) → x ≡ shown_selections l → all ≡ x.all → end ≡ x.count
+    pub applying_done : length all ≤ i → (x : Selections) (l : List Selected) → x ≡ shown_selections l → all ≡ take x.count x.all
         → p ≡ after_selections p₀ r l
-    applying_done h x l e f g =
-        let m : length (take end all) ≤ i = omega (arith, used) in
-        let t : take end all ≡ l = rw (f, g, e) (padded_take 96 (selected 0 0) l) in
-        sym (a.same ∙ ap (after_selections p r) (drop_of_length-le (take end all) m)) ∙ ap (after_selections p₀ r) t
+    applying_done h x l e f =
+        let t : all ≡ l = f ∙ rw e (padded_take 96 (selected 0 0) l) in
+        sym (a.same ∙ ap (after_selections p r) (drop_of_length-le all h)) ∙ ap (after_selections p₀ r) t
 
 -- ---- all relations
 
@@ -169,6 +150,3 @@ module _ (e : Envelope) (w : Within e) where
     pub localizing_done : end ≤ r → p ≡ local_profile e
     unfolding numbers_from
     localizing_done h = sym (a.same ∙ ap (λ (n : ℕ). after_relations e p (numbers_from r n)) (left_none end r h))
-
-pub labelled_few : (e : Envelope) → Within e → (l : Labels) (r : ℕ) → length (selections_by (by_labels l.of e) e r) ≤ 96
-labelled_few e w l r = selections_few (by_labels l.of e) e w r

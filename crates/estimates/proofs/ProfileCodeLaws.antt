@@ -5,7 +5,7 @@ use Prim.Native.Nat.{ℕ, ◌/◌, ◌%◌, ◌≤◌, ◌<◌}
 use native.Mathlib.Omega.{arith}
 use borrow.Author.Tests.{eq-eqb, ne_eqb}
 use lib.Dec.{eqb}
-use lib.ListN.{length, get_or, set, get_or-eq_default}
+use lib.ListN.{get_or, set}
 use Rattle.ground.specs.Tests.{pick}
 use Rattle.ground.specs.Lists.{below}
 use Rattle.ground.proofs.ListLaws.{get_d_map, map_alike}
@@ -22,19 +22,8 @@ use Rattle.estimates.specs.Short.{Y}
 use Rattle.estimates.specs.Columns.{column_of, width_of}
 use Rattle.estimates.specs.Profile.{estimated_rows, given, shrunk}
 use Rattle.estimates.specs.declared.profiles.Profile.{Profile}
-use Rattle.ground.proofs.NumberingLaws.{Numbering, numbering_done}
 
 -- ---- the envelope's own estimates
-
-pub no_rows : (relations : List Relation) (r : ℕ) → length relations ≤ r → 0 ≡ (get_or relations r past_relation).rows
-no_rows relations r h = simp (get_or-eq_default relations past_relation h)
-
-module _ (e : Envelope) (r : ℕ) where
-  pub rows_inside : (n : ℕ) → r < e.relation_count → n ≡ (get_or e.relations r past_relation).rows → n ≡ (relation_in e r).rows
-  rows_inside n h g = g ∙ ap (λ (x : Relation). x.rows) (sym (relation_inside e r h))
-
-  pub rows_outside : e.relation_count ≤ r → 0 ≡ (relation_in e r).rows
-  rows_outside h = ap (λ (x : Relation). x.rows) (sym (relation_outside e r h))
 
 abbrev pub rows_in : Envelope → ℕ → ℕ
 rows_in e r = (relation_in e r).rows
@@ -43,20 +32,9 @@ abbrev pub count_in : Envelope → ℕ → ℕ
 count_in e k = (column_of e (place (k / 8) (k % 8))).distinct
 
 module _ (e : Envelope) where
-  pub rows_given : (i : ℕ) (out : List ℕ) → Numbering 8 0 (rows_in e) i out → 8 ≤ i → out ≡ (given e).rows
+  pub given_whole : (rows counts widths : List ℕ) → rows ≡ map (rows_in e) (below 8) → counts ≡ map (count_in e) (below 64)
+      → widths ≡ map (width_of e) (below 8) → ◌≡◌ {A = Profile} (record { rows = rows; counts = counts; widths = widths }) (given e)
   unfolding given
-  rows_given i out t h = numbering_done 8 0 (rows_in e) i out t h
-
-  pub counts_given : (i : ℕ) (out : List ℕ) → Numbering 64 0 (count_in e) i out → 64 ≤ i → out ≡ (given e).counts
-  unfolding given
-  counts_given i out t h = numbering_done 64 0 (count_in e) i out t h
-
-  pub widths_given : (i : ℕ) (out : List ℕ) → Numbering 8 0 (width_of e) i out → 8 ≤ i → out ≡ (given e).widths
-  unfolding given
-  widths_given i out t h = numbering_done 8 0 (width_of e) i out t h
-
-  pub given_whole : (rows counts widths : List ℕ) → rows ≡ (given e).rows → counts ≡ (given e).counts → widths ≡ (given e).widths
-      → ◌≡◌ {A = Profile} (record { rows = rows; counts = counts; widths = widths }) (given e)
   given_whole rows counts widths f g h = rw (f, g, h)
 
   -- a column's number is what the cast gives
@@ -64,10 +42,6 @@ module _ (e : Envelope) where
   count_at k c x g h = ap (λ (y : Column). y.distinct) (g ∙ ap (column_of e) h)
 
 -- ---- a profile
-
--- behind an array
-pub none_at : (l : List ℕ) (n i : ℕ) → length l ≡ n → n ≤ i → 0 ≡ get_or l i 0
-none_at l n i e h = sym (get_or-eq_default l 0 (omega arith))
 
 -- what a count becomes
 abbrev pub count_left : Profile → Place → ℕ → ℕ → ℕ → ℕ
@@ -107,7 +81,7 @@ module _ (p : Profile) (a : Place) (n count : ℕ) where
   counts_whole =
       map_alike left_at (count_left p a n count) (below 64) (λ k m. sym (left_is k (below_from 64 m)))
 
-  pub shrunk_whole : (i : ℕ) (out rows : List ℕ) → Numbering 64 0 left_at i out → 64 ≤ i → rows ≡ set p.rows a.relation n
-      → ◌≡◌ {A = Profile} (record { rows = rows; counts = out; widths = p.widths }) (shrunk p a n count)
+  pub shrunk_whole : (counts rows : List ℕ) → counts ≡ map left_at (below 64) → rows ≡ set p.rows a.relation n
+      → ◌≡◌ {A = Profile} (record { rows = rows; counts = counts; widths = p.widths }) (shrunk p a n count)
   unfolding shrunk
-  shrunk_whole i out rows t h e = rw (e, numbering_done 64 0 left_at i out t h ∙ counts_whole)
+  shrunk_whole counts rows f g = rw (g, f ∙ counts_whole)

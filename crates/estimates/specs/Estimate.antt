@@ -1,10 +1,9 @@
 -- The estimate of a given program: each step's benefit and cost, assembly and the total, with the formulas of 01 put in for
 -- the kind of estimate.
-use Rattle.std.specs.Prelude.{Bool, ◌&&◌, List, [], ◌∷◌, map, ℕ, length, replicate}
+use Rattle.std.specs.Prelude.{Bool, ◌&&◌, List, [], ◌∷◌, map, ℕ, length}
 use Rattle.ground.specs.Lists.{padded}
-use Rattle.ground.specs.Outcome.{Outcome}
-use Rattle.ground.specs.Outcome.Outcome.{good, bad}
-use Rattle.ground.specs.declared.Verdict.TheVariants.{Taken, Refused}
+use Rattle.ground.specs.Outcome.{Outcome, next}
+use Rattle.ground.specs.Outcome.Outcome.{good}
 use Rattle.entries.specs.Places.{same_place}
 use Rattle.contents.specs.declared.envelope.Envelope.{Envelope}
 use Rattle.papers.specs.Programs.{no_step, steps_of}
@@ -58,7 +57,6 @@ unfoldable pub estimated : Costs → Envelope → List Step → ℕ → Estimate
 estimated k e ss site =
     let p = local_profile e in
     record {
-      verdict = Taken;
       count = length ss;
       lines = padded 156 no_line (lines_of k e p ss);
       assembly = assembly_at k e (after_all (kind_of k e) p ss) site;
@@ -67,11 +65,5 @@ estimated k e ss site =
 
 -- ---- of an envelope and a program that are structs: they are checked first
 
--- a refusal, with nothing beside it
-unfoldable pub no_estimate : ℕ → ℕ → Estimate
-no_estimate n p =
-    record { verdict = Refused n p; count = 0; lines = replicate 156 no_line; assembly = 0; total = 0 }
-
-unfoldable pub estimate_of : Outcome Papers → Estimate
-estimate_of (good q u) = estimated plain_costs q.envelope (steps_of q.program) q.program.site
-estimate_of (bad n p) = no_estimate n p
+unfoldable pub estimate_of : Outcome Papers → Outcome Estimate
+estimate_of o = next o (λ q p. good (estimated plain_costs q.envelope (steps_of q.program) q.program.site) p)

@@ -9,6 +9,7 @@ ghost use Rattle.estimates.specs.Costs.{plain_costs, priced, step_cost, assembly
 use crate::profiles::Profile;
 use contents::envelope::Envelope;
 use paths::steps::Step;
+use std::array;
 
 // The price from site a to site b is prices[8 * a + b].
 #[derive(Clone, Copy)]
@@ -26,25 +27,16 @@ fn plain_price(k: usize) -> u64
 pub fn plain_costs() -> Costs
     ensures { result ≡ plain_costs }
 {
-    let mut prices = [0u64; 64];
-    let mut k: usize = 0;
-    while k < 64 {
-        prices[k] = plain_price(k);
-        k += 1;
+    Costs {
+        prices: array::from_fn(|k| plain_price(k)),
     }
-    Costs { prices: prices }
 }
 
 // The price between two sites; 0 where there is no such place in the prices.
 fn price_at(costs: Costs, sender: u8, receiver: u8) -> u64
     ensures { result ≡ slice_index costs.prices (8 * sender + receiver) }
 {
-    let prices = costs.prices;
-    let i = 8 * (sender as usize) + receiver as usize;
-    if 64 <= i {
-        return 0;
-    }
-    prices[i]
+    crate::profiles::number_at(&costs.prices, 8 * (sender as usize) + receiver as usize)
 }
 
 fn priced(costs: Costs, sender: u8, receiver: u8, size: u64) -> u64
@@ -64,7 +56,7 @@ pub(crate) fn step_cost(costs: Costs, envelope: Envelope, profile: Profile, step
     let right = step.right;
     let column = crate::columns::column_of(envelope, right);
     let width = column.width as u64;
-    let count = crate::profiles::count_at(profile, right);
+    let count = profile.count_at(right);
     let sender = contents::sites::site_of(envelope, right.relation);
     let receiver = contents::sites::site_of(envelope, left.relation);
     priced(costs, sender, receiver, count * width)
@@ -75,8 +67,8 @@ fn sent(costs: Costs, envelope: Envelope, profile: Profile, site: u8, relation: 
     requires { Bounded costs profile }
     ensures { result ≡ priced costs (site_of envelope relation) site (estimated_rows profile relation * width_at profile relation) }
 {
-    let rows = crate::profiles::rows_at(profile, relation);
-    let width = crate::profiles::width_at(profile, relation);
+    let rows = profile.rows_at(relation);
+    let width = profile.width_at(relation);
     let sender = contents::sites::site_of(envelope, relation);
     priced(costs, sender, site, rows * width)
 }
@@ -86,13 +78,11 @@ pub fn assembly_at(costs: Costs, envelope: Envelope, profile: Profile, site: u8)
     requires { Bounded costs profile }
     ensures { result ≡ assembly_at costs envelope profile site }
 {
-    let end = ground::used::in_use(8, envelope.relation_count);
+    let end = ground::used::in_use(8, envelope.relation_count) as u8;
     let mut total: u64 = 0;
-    let mut relation: u8 = 0;
-    while (relation as usize) < end {
+    for relation in 0..end {
         let more = sent(costs, envelope, profile, site, relation);
         total += more;
-        relation += 1;
     }
     total
 }
@@ -103,8 +93,8 @@ pub(crate) fn benefit(envelope: Envelope, profile: Profile, step: Step) -> u64
     ensures { result ≡ benefit envelope profile step }
 {
     let left = step.left;
-    let width = crate::profiles::width_at(profile, left.relation);
-    let before = crate::profiles::rows_at(profile, left.relation);
-    let after = crate::profiles::rows_after(envelope, profile, step);
+    let width = profile.width_at(left.relation);
+    let before = profile.rows_at(left.relation);
+    let after = profile.rows_after(envelope, step);
     width * (before - after)
 }

@@ -1,18 +1,19 @@
 // The estimator: what each step of a program brings and costs, and the program in all.
 ghost use Rattle.std.specs.Prelude.{◌≡◌};
+ghost use Rattle.ground.specs.Outcome.{taken_of};
 ghost use Rattle.envelopes.specs.Rules.{Within, tidy};
 ghost use Rattle.papers.specs.Programs.{steps_of, Acceptable};
 ghost use Rattle.papers.specs.Checks.{papers_of};
 ghost use Rattle.estimates.specs.Profile.{benefit};
 ghost use Rattle.estimates.specs.Costs.{plain_costs, step_cost};
-ghost use Rattle.estimates.specs.Estimate.{line, estimated, no_estimate, estimate_of};
+ghost use Rattle.estimates.specs.Estimate.{line, estimated, estimate_of};
 ghost use Rattle.estimates.specs.Ready.{Ready, Bounded, Shrinks};
 
 use crate::costs::Costs;
 use crate::lines::{Estimate, Line};
 use crate::profiles::Profile;
 use contents::envelope::Envelope;
-use ground::Verdict;
+use ground::refusals::Refusal;
 use papers::programs::Program;
 use paths::steps::Step;
 
@@ -35,39 +36,22 @@ pub fn estimated(costs: Costs, envelope: Envelope, local: Profile, program: Prog
     requires { Ready costs envelope local × Acceptable envelope program }
     ensures { result ≡ estimated costs envelope (steps_of program) program.site }
 {
-    let steps = program.steps;
-    let end = program.count as usize;
+    let steps = ground::used::first(&program.steps, program.count);
     let mut lines = [crate::lines::no_line(); 156];
     let mut now = local;
     let mut spent: u64 = 0;
-    let mut i: usize = 0;
-    while i < end {
-        let step = steps[i];
-        let line = line_of(costs, envelope, now, step);
+    for (i, step) in steps.iter().enumerate() {
+        let line = line_of(costs, envelope, now, *step);
         lines[i] = line;
         spent += line.cost;
-        now = now.after_step(envelope, step);
-        i += 1;
+        now = now.after_step(envelope, *step);
     }
     let assembly = crate::costs::assembly_at(costs, envelope, now, program.site);
     Estimate {
-        verdict: Verdict::Taken,
         count: program.count,
         lines: lines,
         assembly: assembly,
         total: spent + assembly,
-    }
-}
-
-fn refused(number: u8, position: usize) -> Estimate
-    ensures { result ≡ no_estimate number position }
-{
-    Estimate {
-        verdict: Verdict::Refused { number, position },
-        count: 0,
-        lines: [crate::lines::no_line(); 156],
-        assembly: 0,
-        total: 0,
     }
 }
 
@@ -82,18 +66,9 @@ fn estimated_plainly(envelope: Envelope, program: Program) -> Estimate
 }
 
 // What a program is expected to cost: the envelope, then the program, is checked first.
-pub fn estimate(envelope: Envelope, program: Program) -> Estimate
-    ensures { result ≡ estimate_of (papers_of envelope program) }
+pub fn estimate(envelope: Envelope, program: Program) -> Result<Estimate, Refusal>
+    ensures { result ≡ taken_of (estimate_of (papers_of envelope program)) }
 {
-    let read = papers::checks::check_papers(envelope, program);
-    let verdict = read.verdict;
-    match verdict {
-        Verdict::Refused { number, position } => refused(number, position),
-        Verdict::Taken => {
-            let papers = read.papers;
-            let checked = papers.envelope;
-            let good = papers.program;
-            estimated_plainly(checked, good)
-        }
-    }
+    let papers = papers::checks::check_papers(envelope, program)?;
+    Ok(estimated_plainly(papers.envelope, papers.program))
 }

@@ -2,7 +2,6 @@
 ghost use Rattle.std.specs.Prelude.{◌≡◌};
 ghost use Rattle.estimates.specs.Estimate.{no_line};
 
-use ground::Verdict;
 use paths::steps::Step;
 
 // A step of a program with its benefit and its cost in that program.
@@ -13,10 +12,9 @@ pub struct Line {
     pub cost: u64,
 }
 
-// What a given program is expected to cost; or the refusal, with nothing beside it.
+// What a given program is expected to cost.
 #[derive(Clone, Copy)]
 pub struct Estimate {
-    pub verdict: Verdict,
     pub count: u8,
     pub lines: [Line; 156],
     pub assembly: u64,

@@ -17,18 +17,14 @@ fn after_selections(envelope: Envelope, labels: Labels, profile: Profile, relati
     ensures { result ≡ after_selections profile relation (selections_by (by_labels labels.of envelope) envelope relation) }
 {
     let selections = paths::implied::selections_by(envelope, labels, relation);
-    let all = selections.all;
-    let end = selections.count as usize;
+    let all = ground::used::first(&selections.all, selections.count);
     let mut now = profile;
-    let mut i: usize = 0;
-    while i < end {
-        let selection = all[i];
+    for selection in all {
         let place = Place {
             relation: relation,
             column: selection.column,
         };
         now = now.after_selection(place);
-        i += 1;
     }
     now
 }
@@ -39,12 +35,10 @@ pub fn local_profile(envelope: Envelope) -> Profile
     ensures { result ≡ local_profile envelope }
 {
     let labels = paths::labels::labels_of(envelope);
-    let end = ground::used::in_use(8, envelope.relation_count);
+    let end = ground::used::in_use(8, envelope.relation_count) as u8;
     let mut now = crate::profiles::given(envelope);
-    let mut relation: u8 = 0;
-    while (relation as usize) < end {
+    for relation in 0..end {
         now = after_selections(envelope, labels, now, relation);
-        relation += 1;
     }
     now
 }

@@ -14,7 +14,7 @@ use Rattle.ground.specs.Outcome.Outcome.{good}
 use Rattle.ground.proofs.ByteLaws.{bytes_length, read_written, written_read, stands_left, stands_right, stands_both, stands_one, one_stands}
 use Rattle.ground.proofs.TestLaws.{and_left, and_right, and_both}
 use Rattle.ground.proofs.OutcomeLaws.{pick_good}
-use Rattle.fields.specs.Refusals.{ends_inside, beyond_limit, wrong_mark, wrong_version}
+use Rattle.ground.specs.declared.refusals.Reason.TheVariants.{EndsInside, BeyondLimit, WrongMark, WrongVersion}
 use Rattle.fields.specs.Numbers.{number_at, number_that, between, number_in, under, number_below, marked, mark_at, version_at, head_of}
 use Rattle.fields.specs.Exact.{Exact, Spans}
 use Rattle.fields.proofs.NumberLaws.{at_good, between_true, between_in}
@@ -42,7 +42,7 @@ module _ (w : ℕ) (s : List ℕ) (at : ℕ) where
   unfolding number_that
   that_exact fits =
       restated s at (λ v _ _. sym (append-nil (bytes_of w v))) (λ v p h. (h.0, h.1.0)) (λ v p h. (h.0, (h.1, refl)))
-      (chained s at (λ v. v) number_exact (λ v p _. tested s p (fits v) v beyond_limit at) (λ a c q _ h. h.1))
+      (chained s at (λ v. v) number_exact (λ v p _. tested s p (fits v) v BeyondLimit at) (λ a c q _ h. h.1))
 
   pub in_exact : (low high : ℕ) → high < 256 ^ w → Exact s at (number_in w low high s at) (bytes_of w) (λ v. (low ≤ v) × (v ≤ high))
   in_exact low high small =
@@ -86,8 +86,8 @@ unfolding mark_at
 mark_exact letters s at =
     record {
       sound = λ l p all e.
-          let (fits, is) = pick_good (leb (at + length letters) (length s)) _ ends_inside at l p e in
-          let (stand, are) = pick_good (marked letters s at) (good letters (at + length letters)) wrong_mark at l p is in
+          let (fits, is) = pick_good (leb (at + length letters) (length s)) _ EndsInside at l p e in
+          let (stand, are) = pick_good (marked letters s at) (good letters (at + length letters)) WrongMark at l p is in
           let same : l ≡ letters = cc in
           let end : p ≡ at + length letters = cc in
           (same, rw same (omega (arith, end), marked_stands letters s at (leb-true (at + length letters) (length s) fits) stand));
@@ -104,7 +104,7 @@ unfolding version_at
 version_exact newest small s at =
     restated s at (λ v _ _. sym (append-nil (bytes_of 2 v))) (λ v p h. between_true 1 newest v h.1.0)
     (λ v p h. (omega arith, (between_in 1 newest v h.0 h.1, refl)))
-    (chained s at (λ v. v) (number_exact 2 s at) (λ v p _. tested s p (between 1 newest v) v wrong_version at) (λ a c q _ h. h.1))
+    (chained s at (λ v. v) (number_exact 2 s at) (λ v p _. tested s p (between 1 newest v) v WrongVersion at) (λ a c q _ h. h.1))
 
 pub head_exact : (letters : List ℕ) (newest : ℕ) → newest < 65536 → (s : List ℕ)
     → Exact s 0 (head_of letters newest s) (λ v. letters ++ bytes_of 2 v) (λ v. (1 ≤ v) × (v ≤ newest))

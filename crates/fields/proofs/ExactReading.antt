@@ -18,6 +18,7 @@ use Rattle.ground.specs.Outcome.Outcome.{good, bad}
 use Rattle.ground.proofs.OutcomeLaws.{good_bad, next_good, more_good, unless_good}
 use Rattle.ground.proofs.ByteLaws.{stands_left, stands_right, stands_both, stands_self, stands_whole}
 use Rattle.fields.specs.Exact.{Spans, Reads, Exact}
+use Rattle.ground.specs.declared.refusals.Reason.{Reason}
 
 -- ---- spans
 
@@ -45,7 +46,7 @@ module _ {A : Type 0} (s : List ℕ) (at : ℕ) where
       }
 
   -- a refusal, where nothing is fine
-  pub refused : {bytes : A → List ℕ} {Fine : A → ℕ → Type 0} (m q : ℕ) → ((v : A) (p : ℕ) → Fine v p → ⊥) → Reads s at (bad m q) bytes Fine
+  pub refused : {bytes : A → List ℕ} {Fine : A → ℕ → Type 0} (m : Reason) (q : ℕ) → ((v : A) (p : ℕ) → Fine v p → ⊥) → Reads s at (bad m q) bytes Fine
   refused m q none =
       record {
         sound = λ v p _ e. absurd (good_bad v p m q (sym e));
@@ -73,13 +74,13 @@ module _ {A : Type 0} (s : List ℕ) (at : ℕ) where
       }
 
   -- a value that passes a test, and nothing more
-  pub tested : (b : Bool) (v : A) (m q : ℕ) → Exact s at (pick b (good v at) (bad m q)) (λ _. []) (λ c. (b ≡ true) × (c ≡ v))
+  pub tested : (b : Bool) (v : A) (m : Reason) (q : ℕ) → Exact s at (pick b (good v at) (bad m q)) (λ _. []) (λ c. (b ≡ true) × (c ≡ v))
   tested b v m q =
       picked b (λ e. restated (λ _ _ _. refl) (λ c p h. (e, h)) (λ c p h. h.1) (done v))
       (λ e. refused m q (λ c p h. false≢true (sym e ∙ h.0)))
 
   -- the last of a paper: nothing may be left over
-  pub last : {o : Outcome A} {Fine : A → Type 0} (m : ℕ) → Exact s at o (λ _. []) Fine
+  pub last : {o : Outcome A} {Fine : A → Type 0} (m : Reason) → Exact s at o (λ _. []) Fine
       → Reads s at (pick (ltb at (length s)) (bad m at) o) (λ _. []) (λ c q. Fine c × (length s ≤ q))
   last {o} m r =
       record {

@@ -3,6 +3,8 @@
 -- That both papers above are read exactly is chained of these laws.
 pub mod NumberLaws
 pub mod HeadCodeLaws
+pub mod ListCodeLaws
 pub mod PutLaws
+pub mod PartLaws
 pub mod ExactReading
 pub mod ExactNumbers

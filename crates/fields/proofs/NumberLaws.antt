@@ -12,21 +12,24 @@ use Rattle.ground.specs.Tests.{pick}
 use Rattle.ground.specs.Bytes.{little_end}
 use Rattle.ground.specs.Outcome.{Outcome, next}
 use Rattle.ground.specs.Outcome.Outcome.{good, bad}
-use Rattle.ground.proofs.OutcomeLaws.{never}
-use Rattle.fields.specs.Numbers.{bytes_wide, number_at, number_that, between, under, number_in, number_below, shown_number}
+use Rattle.ground.proofs.OutcomeLaws.{never, read_good, passes_on}
+use Rattle.fields.specs.Numbers.{bytes_wide, number_at, number_that, between, under, number_in, number_below}
 use Rattle.fields.specs.declared.numbers.Width.{Width}
-use Rattle.fields.specs.declared.numbers.NumberRead.{NumberRead}
-use Rattle.fields.specs.declared.numbers.NumberRead.TheVariants.{Is, Not}
+use Rattle.ground.specs.Outcome.{read_of}
+use Rattle.ground.specs.declared.refusals.Reason.TheVariants.{BeyondLimit, EndsInside}
+use Rattle.ground.specs.declared.refusals.Refusal.{Refusal}
+use Rattle.ground.specs.Refusals.{refusal}
+use Rattle.std.specs.Prelude.{Result, Ok, Err}
 
 -- ---- a number of w bytes
 
-pub number_short : (w : ℕ) (s : List ℕ) (at : ℕ) → length s < at + w → Not 1 at ≡ shown_number (number_at w s at)
-unfolding number_at shown_number
+pub number_short : (w : ℕ) (s : List ℕ) (at : ℕ) → length s < at + w → Err (refusal EndsInside at) ≡ read_of (number_at w s at)
+unfolding number_at read_of
 number_short w s at h = simp (lt-leb _ _ h)
 
-pub number_is : (w : ℕ) (s : List ℕ) (at v : ℕ) → at + w ≤ length s → v ≡ little_end w s at → Is v (at + w) ≡ shown_number (number_at w s at)
-unfolding number_at shown_number
-number_is w s at v h e = simp (le-leb _ _ h) (ap (λ x. Is x (at + w)) e)
+pub number_is : (w : ℕ) (s : List ℕ) (at v : ℕ) → at + w ≤ length s → v ≡ little_end w s at → Ok (v, at + w) ≡ read_of (number_at w s at)
+unfolding number_at read_of
+number_is w s at v h e = simp (le-leb _ _ h) (ap (λ x. Ok (x, at + w)) e)
 
 pub one_byte : (s : List ℕ) (at : ℕ) → little_end 1 s at ≡ get_or s at 0
 unfolding little_end
@@ -42,36 +45,24 @@ unfolding little_end
 four_bytes s at = simp (mul-zero, add-zero, add_assoc)
 
 -- by a width that is known
-pub at_width : (x y : Width) (s : List ℕ) (at : ℕ) (r : NumberRead) → x ≡ y → r ≡ shown_number (number_at (bytes_wide y) s at)
-    → r ≡ shown_number (number_at (bytes_wide x) s at)
+pub at_width : (x y : Width) (s : List ℕ) (at : ℕ) (r : Result (ℕ × ℕ) Refusal) → x ≡ y → r ≡ read_of (number_at (bytes_wide y) s at)
+    → r ≡ read_of (number_at (bytes_wide x) s at)
 at_width x y s at r e h = h ∙ simp e
-
--- ---- what an answer says of the outcome
-
-pub number_good : (o : Outcome ℕ) (r : NumberRead) (v p : ℕ) → r ≡ shown_number o → r ≡ Is v p → o ≡ good v p
-unfolding shown_number
-number_good (good u q) r v p e g = cc
-number_good (bad n q) r v p e g = let z : ◌≡◌ {A = ℕ} 0 1 = cc in absurd (never z)
-
-pub number_bad : (o : Outcome ℕ) (r : NumberRead) (n p : ℕ) → r ≡ shown_number o → r ≡ Not n p → o ≡ bad n p
-unfolding shown_number
-number_bad (good u q) r n p e g = let z : ◌≡◌ {A = ℕ} 0 1 = cc in absurd (never z)
-number_bad (bad m q) r n p e g = cc
 
 -- ---- a number that passes a test
 
-module _ (fits : ℕ → Bool) (w : ℕ) (s : List ℕ) (at : ℕ) (r : NumberRead) (e : r ≡ shown_number (number_at w s at)) where
-  pub that_refused : (n p : ℕ) → r ≡ Not n p → r ≡ shown_number (number_that fits w s at)
-  unfolding number_that shown_number
-  that_refused n p g = g ∙ simp (number_bad (number_at w s at) r n p e g)
+module _ (fits : ℕ → Bool) (w : ℕ) (s : List ℕ) (at : ℕ) (r : Result (ℕ × ℕ) Refusal) (e : r ≡ read_of (number_at w s at)) where
+  pub that_refused : (x : Refusal) → r ≡ Err x → Err x ≡ read_of (number_that fits w s at)
+  unfolding number_that
+  that_refused x g = passes_on (number_at w s at) _ r e x g
 
-  pub that_no : (v p : ℕ) → r ≡ Is v p → fits v ≡ false → Not 4 at ≡ shown_number (number_that fits w s at)
-  unfolding number_that shown_number
-  that_no v p g h = simp (number_good (number_at w s at) r v p e g, h)
+  pub that_no : (v p : ℕ) → r ≡ Ok (v, p) → fits v ≡ false → Err (refusal BeyondLimit at) ≡ read_of (number_that fits w s at)
+  unfolding number_that read_of
+  that_no v p g h = simp (read_good (number_at w s at) r v p e g, h)
 
-  pub that_yes : (v p : ℕ) → r ≡ Is v p → fits v ≡ true → Is v p ≡ shown_number (number_that fits w s at)
-  unfolding number_that shown_number
-  that_yes v p g h = simp (number_good (number_at w s at) r v p e g, h)
+  pub that_yes : (v p : ℕ) → r ≡ Ok (v, p) → fits v ≡ true → Ok (v, p) ≡ read_of (number_that fits w s at)
+  unfolding number_that read_of
+  that_yes v p g h = simp (read_good (number_at w s at) r v p e g, h)
 
 module _ (low high v : ℕ) where
   pub between_low : v < low → between low high v ≡ false
@@ -93,7 +84,7 @@ module _ (low high v : ℕ) where
 
 -- ---- what is known of a number that was read: it passed the test, and the position past it lies within the bytes
 
-at_by : (w : ℕ) (s : List ℕ) (at u v p : ℕ) (a : Bool) → leb (at + w) (length s) ≡ a → pick a (good u (at + w)) (bad 1 at) ≡ good v p
+at_by : (w : ℕ) (s : List ℕ) (at u v p : ℕ) (a : Bool) → leb (at + w) (length s) ≡ a → pick a (good u (at + w)) (bad EndsInside at) ≡ good v p
     → (p ≡ at + w) × (p ≤ length s) × (v ≡ u)
 at_by w s at u v p true h e = let k : p ≡ at + w = cc in (k, omega (arith, leb-true (at + w) (length s) h), cc)
 at_by w s at u v p false h e = let z : ◌≡◌ {A = ℕ} 0 1 = cc in absurd (never z)
@@ -103,10 +94,10 @@ unfolding number_at
 at_good w s at v p e = at_by w s at (little_end w s at) v p (leb (at + w) (length s)) refl e
 
 that_by : (fits : ℕ → Bool) (at v p : ℕ) (o : Outcome ℕ) (b : ℕ → Bool) → ((x : ℕ) → fits x ≡ b x)
-    → next o (λ x q. pick (b x) (good x q) (bad 4 at)) ≡ good v p → (fits v ≡ true) × (o ≡ good v p)
+    → next o (λ x q. pick (b x) (good x q) (bad BeyondLimit at)) ≡ good v p → (fits v ≡ true) × (o ≡ good v p)
 that_by fits at v p (good u q) b h e = go (b u) refl e
   where
-    go : (c : Bool) → b u ≡ c → pick c (good u q) (bad 4 at) ≡ good v p → (fits v ≡ true) × (good u q ≡ good v p)
+    go : (c : Bool) → b u ≡ c → pick c (good u q) (bad BeyondLimit at) ≡ good v p → (fits v ≡ true) × (good u q ≡ good v p)
     go true k f = let m : u ≡ v = cc in (ap fits (sym m) ∙ h u ∙ k, f)
     go false k f = let z : ◌≡◌ {A = ℕ} 0 1 = cc in absurd (never z)
 that_by fits at v p (bad n q) b h e = let z : ◌≡◌ {A = ℕ} 0 1 = cc in absurd (never z)
@@ -123,9 +114,9 @@ pub below_good : (w limit : ℕ) (s : List ℕ) (at v p : ℕ) → number_below 
 below_good w limit s at v p e = ltb-true v limit (that_good (under limit) w s at v p e).0
 
 -- the same of an answer
-module _ (w : ℕ) (s : List ℕ) (at : ℕ) (r : NumberRead) (v p : ℕ) (g : r ≡ Is v p) where
-  pub read_in : (low high : ℕ) → r ≡ shown_number (number_in w low high s at) → (low ≤ v) × (v ≤ high)
-  read_in low high e = in_good w low high s at v p (number_good _ r v p e g)
+module _ (w : ℕ) (s : List ℕ) (at : ℕ) (r : Result (ℕ × ℕ) Refusal) (v p : ℕ) (g : r ≡ Ok (v, p)) where
+  pub read_in : (low high : ℕ) → r ≡ read_of (number_in w low high s at) → (low ≤ v) × (v ≤ high)
+  read_in low high e = in_good w low high s at v p (read_good _ r v p e g)
 
-  pub read_below : (limit : ℕ) → r ≡ shown_number (number_below w limit s at) → v < limit
-  read_below limit e = below_good w limit s at v p (number_good _ r v p e g)
+  pub read_below : (limit : ℕ) → r ≡ read_of (number_below w limit s at) → v < limit
+  read_below limit e = below_good w limit s at v p (read_good _ r v p e g)

@@ -5,8 +5,8 @@ use Prim.Native.Nat.{ℕ, suc, ◌+◌, ◌/◌, ◌%◌, ◌≤◌, ◌<◌}
 use native.Mathlib.Numerals.{add-one, add-two}
 use native.Mathlib.Omega.{arith}
 use mathlib.Core.List.{List, [], ◌∷◌, ◌++◌, Memᴰ}
-use lib.ListN.{length, set, take, replicate, length-append, length-replicate}
-use lib.Seq.{sets, set_out, take-length}
+use lib.ListN.{length, set, take, drop, replicate, length-append, length-replicate}
+use lib.Seq.{sets, sets-eq, set_out}
 use lib.Dec.{ltb}
 use borrow.Author.Tests.{lt-ltb, le-ltb, ltb-false}
 use Rattle.ground.specs.Bytes.{bytes_of}
@@ -15,13 +15,15 @@ use Rattle.ground.specs.Outcome.Outcome.{good, bad}
 use Rattle.ground.specs.Refusing.{test}
 use Rattle.ground.proofs.OutcomeLaws.{never, next_good, unless_good}
 use Rattle.ground.proofs.RefusingLaws.{refusal_listed}
-use Rattle.ground.proofs.PuttingLaws.{Copying, copying_done, sets_append, sets_stand}
+use Rattle.ground.proofs.PuttingLaws.{sets_append, sets_stand}
 use Rattle.fields.specs.Numbers.{bytes_wide}
-use Rattle.fields.specs.Refusals.{too_short}
+use Rattle.ground.specs.declared.refusals.Reason.TheVariants.{TooShort}
 use Rattle.fields.specs.declared.numbers.Width.{Width}
 use Rattle.fields.specs.Puts.{fitted, written_of, written_from, written_in, Puts, Fronts}
-use Rattle.fields.specs.declared.puts.Written.{Written}
-use Rattle.fields.specs.declared.puts.Written.TheVariants.{Length, Refused}
+use Rattle.ground.specs.declared.refusals.Reason.{Reason}
+use Rattle.ground.specs.Refusals.{refusal}
+use Rattle.ground.specs.declared.refusals.Refusal.{Refusal}
+use Rattle.std.specs.Prelude.{Result, Ok, Err}
 
 -- past the end nothing is put
 pub sets_out : (l : List ℕ) (i : ℕ) (vs : List ℕ) → length l ≤ i → l ≡ sets l i vs
@@ -50,25 +52,25 @@ put_width x y l at v a e h = h ∙ simp e
 
 -- ---- an outcome as the answer and the buffer afterwards, from a start on
 
-abbrev pub Writes : ℕ → List ℕ → Outcome (List ℕ) → Written → List ℕ → Type 0
+abbrev pub Writes : ℕ → List ℕ → Outcome (List ℕ) → Result ℕ Refusal → List ℕ → Type 0
 Writes start out o answer after = (answer ≡ written_of o) × (after ≡ written_from start out o)
 
 module _ (start : ℕ) (out : List ℕ) (o : Outcome (List ℕ)) where
-  pub writes_bad : (m p : ℕ) → o ≡ bad m p → Writes start out o (Refused m p) out
+  pub writes_bad : (m : Reason) (p : ℕ) → o ≡ bad m p → Writes start out o (Err (refusal m p)) out
   unfolding written_of leaves
   writes_bad m p e = (ap written_of (sym e), ap (written_from start out) (sym e))
 
   pub writes_good : (words : List ℕ) (p n : ℕ) (after : List ℕ) → o ≡ good words p → n ≡ length words → after ≡ sets out start words
-      → Writes start out o (Length n) after
+      → Writes start out o (Ok n) after
   unfolding written_of leaves
   writes_good words p n after e f k = (rw f (ap written_of (sym e)), k ∙ ap (written_from start out) (sym e))
 
-  pub writes_same : (o' : Outcome (List ℕ)) → o ≡ o' → (answer : Written) (after : List ℕ) → Writes start out o' answer after
+  pub writes_same : (o' : Outcome (List ℕ)) → o ≡ o' → (answer : Result ℕ Refusal) (after : List ℕ) → Writes start out o' answer after
       → Writes start out o answer after
   writes_same o' e answer after h = (h.0 ∙ ap written_of (sym e), h.1 ∙ ap (written_from start out) (sym e))
 
 -- an answer turned back into the outcome
-pub written_good : (o : Outcome (List ℕ)) (n : ℕ) → written_of o ≡ Length n
+pub written_good : (o : Outcome (List ℕ)) (n : ℕ) → written_of o ≡ Ok n
     → (words : List ℕ) × (p : ℕ) × (o ≡ good words p) × (n ≡ length words)
 unfolding written_of
 written_good (good words p) n e = (words, p, refl, cc)
@@ -77,7 +79,7 @@ written_good (bad m p) n e = let z : ◌≡◌ {A = ℕ} 0 1 = cc in absurd (nev
 -- ---- words that fit, and those that do not
 
 module _ (room : ℕ) (words : List ℕ) where
-  pub fitted_short : room < length words → fitted room words ≡ bad too_short 0
+  pub fitted_short : room < length words → fitted room words ≡ bad TooShort 0
   unfolding fitted
   fitted_short h = rw (lt-ltb room (length words) h)
 
@@ -88,33 +90,34 @@ module _ (room : ℕ) (words : List ℕ) where
   pub fitted_good : (kept : List ℕ) (p : ℕ) → fitted room words ≡ good kept p → (kept ≡ words) × (length words ≤ room) × (p ≡ length words)
   unfolding fitted
   fitted_good kept p e =
-      let (fits, same) = unless_good (ltb room (length words)) too_short 0 (good words (length words)) kept p e in
+      let (fits, same) = unless_good (ltb room (length words)) TooShort 0 (good words (length words)) kept p e in
       (cc, ltb-false _ _ fits, cc)
 
-  pub fitted_bad : (m p : ℕ) → fitted room words ≡ bad m p → Memᴰ m (too_short ∷ []) × (p ≡ 0)
+  pub fitted_bad : (m : Reason) (p : ℕ) → fitted room words ≡ bad m p → Memᴰ m (TooShort ∷ []) × (p ≡ 0)
   unfolding fitted
-  fitted_bad m p e = refusal_listed (test (ltb room (length words)) too_short 0 ∷ []) words (length words) m p (refl, tt) e
+  fitted_bad m p e = refusal_listed (test (ltb room (length words)) TooShort 0 ∷ []) words (length words) m p (refl, tt) e
 
 -- ---- a copy to the front
 
-pub front_short : (s out : List ℕ) → length out < length s → Writes 0 out (fitted (length out) s) (Refused 11 0) out
-front_short s out h = writes_bad 0 out _ 11 0 (fitted_short (length out) s h)
+pub front_short : (s out : List ℕ) → length out < length s → Writes 0 out (fitted (length out) s) (Err (refusal TooShort 0)) out
+front_short s out h = writes_bad 0 out _ TooShort 0 (fitted_short (length out) s h)
 
-pub front_whole : (s before out : List ℕ) (i : ℕ) → Copying s before 0 (length s) i i out → length s ≤ i → length s ≤ length before
-    → Writes 0 before (fitted (length before) s) (Length i) out
-front_whole s before out i c h k =
-    writes_good 0 before _ s (length s) i out (fitted_fits (length before) s k) (omega arith)
-    (copying_done s before 0 (length s) i i out c h ∙ simp take-length)
+pub front_whole : (s out : List ℕ) → length s ≤ length out
+    → Writes 0 out (fitted (length out) s) (Ok (length s)) (s ++ drop (length s) out)
+front_whole s out h =
+    let whole : 0 + length s ≤ length out = omega (arith, h) in
+    let none : 0 + length s ≡ length s = omega arith in
+    writes_good 0 out _ s (length s) (length s) _ (fitted_fits (length out) s h) refl (sym (sets-eq s out 0 whole ∙ rw none refl))
 
 -- the bytes of what was judged, whatever it is
 module _ {A : Type 0} (o : Outcome A) (bytes out : List ℕ) where
   abbrev wrote : Outcome (List ℕ)
   wrote = next o (λ _ _. fitted (length out) bytes)
 
-  pub written_refused : (m q : ℕ) → o ≡ bad m q → Writes 0 out wrote (Refused m q) out
+  pub written_refused : (m : Reason) (q : ℕ) → o ≡ bad m q → Writes 0 out wrote (Err (refusal m q)) out
   written_refused m q h = writes_bad 0 out wrote m q (ap (λ (o : Outcome A). next o (λ _ _. fitted (length out) bytes)) h)
 
-  pub written_front : (v : A) (p : ℕ) (l after : List ℕ) (x : Written) → o ≡ good v p → l ≡ bytes
+  pub written_front : (v : A) (p : ℕ) (l after : List ℕ) (x : Result ℕ Refusal) → o ≡ good v p → l ≡ bytes
       → Writes 0 out (fitted (length out) l) x after → Writes 0 out wrote x after
   written_front v p l after x h e y =
       writes_same 0 out wrote (fitted (length out) l)
@@ -124,7 +127,7 @@ module _ {A : Type 0} (o : Outcome A) (bytes out : List ℕ) where
       y
 
   -- it reads back: the length says how far, and there stand the bytes
-  pub written_back : (n : ℕ) → written_of wrote ≡ Length n
+  pub written_back : (n : ℕ) → written_of wrote ≡ Ok n
       → (v : A) × (p : ℕ) × (o ≡ good v p) × (n ≡ length bytes) × (take n (written_in out wrote) ≡ bytes)
   unfolding leaves
   written_back n e =

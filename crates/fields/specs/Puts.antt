@@ -1,23 +1,23 @@
 -- "Making, answering and writing start at the front of the lent buffer, return the length written and leave the rest." Refusal
 -- 11: "lent buffer too short". "A refusal writes nothing anywhere and changes no end." This is said here once, for papers,
 -- messages, values and answers.
-use Rattle.std.specs.Prelude.{ℕ, ◌+◌, ◌≤◌, ◌≡◌, List, [], ◌∷◌, length, nat_lt}
+use Rattle.std.specs.Prelude.{Result, Ok, Err, ℕ, ◌+◌, ◌≤◌, ◌≡◌, List, [], ◌∷◌, length, nat_lt}
 use Rattle.std.proofs.lemmas.List.Edits.{sets}
 use Rattle.ground.specs.Outcome.{Outcome, leaves}
 use Rattle.ground.specs.Outcome.Outcome.{good, bad}
 use Rattle.ground.specs.Refusing.{test, judged}
-use Rattle.fields.specs.Refusals.{too_short}
-use Rattle.fields.specs.declared.puts.Written.{Written}
-use Rattle.fields.specs.declared.puts.Written.TheVariants.{Length, Refused}
+use Rattle.ground.specs.declared.refusals.Reason.TheVariants.{TooShort}
+use Rattle.ground.specs.Refusals.{refusal}
+use Rattle.ground.specs.declared.refusals.Refusal.{Refusal}
 
 -- bytes or words with their length, or 11 where the room that is lent is shorter
 unfoldable pub fitted : ℕ → List ℕ → Outcome (List ℕ)
-fitted room words = judged (test (nat_lt room (length words)) too_short 0 ∷ []) (good words (length words))
+fitted room words = judged (test (nat_lt room (length words)) TooShort 0 ∷ []) (good words (length words))
 
 -- what a call that writes answers: the length written, or the refusal
-unfoldable pub written_of : Outcome (List ℕ) → Written
-written_of (good words p) = Length (length words)
-written_of (bad n p) = Refused n p
+unfoldable pub written_of : Outcome (List ℕ) → Result ℕ Refusal
+written_of (good words p) = Ok (length words)
+written_of (bad n p) = Err (refusal n p)
 
 -- the lent buffer afterwards: from a start on, and from the front on
 abbrev pub written_from : ℕ → List ℕ → Outcome (List ℕ) → List ℕ

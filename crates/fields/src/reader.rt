@@ -1,12 +1,11 @@
-// A paper's bytes and a position in them, and the thin functions over such a reader. What they do is done by functions on the bytes
-// and the position.
-ghost use Rattle.std.specs.Prelude.{◌≡◌, ◌∷◌, [], ◌+◌, ◌≤◌, ◌<◌, length};
-ghost use Rattle.ground.specs.Outcome.{verdict_of};
-ghost use Rattle.fields.specs.Numbers.{bytes_wide, number_at, marked, mark_at, shown_number};
+// A paper's bytes and a position in them, and what such a reader reads. What its methods do is done by functions on the bytes and the
+// position.
+ghost use Rattle.std.specs.Prelude.{◌≡◌, ◌∷◌, [], ◌+◌, ◌≤◌, ◌<◌, length, nat_le};
+ghost use Rattle.ground.specs.Outcome.{read_of, verdict_of};
+ghost use Rattle.fields.specs.Numbers.{bytes_wide, number_at, marked, mark_at};
 
-use crate::numbers::{NumberRead, Width};
-use crate::refusals;
-use ground::Verdict;
+use crate::numbers::Width;
+use ground::refusals::{Reason, Refusal};
 
 // "A small reader struct holding the paper's bytes and a position."
 #[derive(Clone, Copy)]
@@ -15,79 +14,43 @@ pub struct Reader<'a> {
     pub at: usize,
 }
 
-fn wide(x: u8) -> u32
-    ensures { (result ≡ x) × (result < 256) }
+// Whether so many bytes stand from a position on.
+fn reaches(s: &[u8], at: usize, n: usize) -> bool
+    ensures { result ≡ nat_le (at + n) (length s.now) }
 {
-    x as u32
+    at <= s.len() && n <= s.len() - at
 }
 
-fn one_at(s: &[u8], at: usize) -> NumberRead
-    ensures { result ≡ shown_number (number_at 1 s.now at) }
+// A number of one, two and four bytes, a line each: one function for any size would need a loop with a sum.
+fn one_at(s: &[u8], at: usize) -> Result<(u32, usize), Refusal>
+    ensures { result ≡ read_of (number_at 1 s.now at) }
 {
-    if s.len() <= at {
-        return NumberRead::Not {
-            number: refusals::ENDS_INSIDE,
-            position: at,
-        };
+    if !reaches(s, at, 1) {
+        return Err(Reason::EndsInside.at(at));
     }
-    NumberRead::Is(wide(s[at]), at + 1)
+    Ok((s[at] as u32, at + 1))
 }
 
-fn two_at(s: &[u8], at: usize) -> NumberRead
-    ensures { result ≡ shown_number (number_at 2 s.now at) }
+fn two_at(s: &[u8], at: usize) -> Result<(u32, usize), Refusal>
+    ensures { result ≡ read_of (number_at 2 s.now at) }
 {
-    if s.len() <= at {
-        return NumberRead::Not {
-            number: refusals::ENDS_INSIDE,
-            position: at,
-        };
+    if !reaches(s, at, 2) {
+        return Err(Reason::EndsInside.at(at));
     }
-    if s.len() - at < 2 {
-        return NumberRead::Not {
-            number: refusals::ENDS_INSIDE,
-            position: at,
-        };
-    }
-    NumberRead::Is(wide(s[at]) + 256 * wide(s[at + 1]), at + 2)
+    Ok((s[at] as u32 + 256 * s[at + 1] as u32, at + 2))
 }
 
-fn four_at(s: &[u8], at: usize) -> NumberRead
-    ensures { result ≡ shown_number (number_at 4 s.now at) }
+fn four_at(s: &[u8], at: usize) -> Result<(u32, usize), Refusal>
+    ensures { result ≡ read_of (number_at 4 s.now at) }
 {
-    if s.len() <= at {
-        return NumberRead::Not {
-            number: refusals::ENDS_INSIDE,
-            position: at,
-        };
+    if !reaches(s, at, 4) {
+        return Err(Reason::EndsInside.at(at));
     }
-    if s.len() - at < 4 {
-        return NumberRead::Not {
-            number: refusals::ENDS_INSIDE,
-            position: at,
-        };
-    }
-    NumberRead::Is(
-        wide(s[at]) + 256 * (wide(s[at + 1]) + 256 * (wide(s[at + 2]) + 256 * wide(s[at + 3]))),
+    let upper = s[at + 2] as u32 + 256 * s[at + 3] as u32;
+    Ok((
+        s[at] as u32 + 256 * (s[at + 1] as u32 + 256 * upper),
         at + 4,
-    )
-}
-
-// A number by its width.
-fn number_from(s: &[u8], at: usize, width: Width) -> NumberRead
-    ensures { result ≡ shown_number (number_at (bytes_wide width) s.now at) }
-{
-    match width {
-        Width::One => one_at(s, at),
-        Width::Two => two_at(s, at),
-        Width::Four => four_at(s, at),
-    }
-}
-
-// The number at a reader's position: the reader is taken apart.
-pub(crate) fn number<'a>(reader: Reader<'a>, width: Width) -> NumberRead
-    ensures { result ≡ shown_number (number_at (bytes_wide width) reader.entry.bytes.now reader.entry.at) }
-{
-    number_from(reader.bytes, reader.at, width)
+    ))
 }
 
 // The three letters of a mark at a position.
@@ -95,54 +58,41 @@ fn is_marked(s: &[u8], at: usize, a: u8, b: u8, c: u8) -> bool
     requires { at + 3 ≤ length s.now }
     ensures { result ≡ marked (a ∷ b ∷ c ∷ []) s.now at }
 {
-    if s[at] != a {
-        return false;
-    }
-    if s[at + 1] != b {
-        return false;
-    }
-    s[at + 2] == c
+    s[at] == a && s[at + 1] == b && s[at + 2] == c
 }
 
-// A mark is one field: it must be whole before it is compared.
-fn mark_from(s: &[u8], at: usize, a: u8, b: u8, c: u8) -> Verdict
-    ensures { result ≡ verdict_of (mark_at (a ∷ b ∷ c ∷ []) s.now at) }
-{
-    if s.len() <= at {
-        return Verdict::Refused {
-            number: refusals::ENDS_INSIDE,
-            position: at,
-        };
-    }
-    if s.len() - at < 3 {
-        return Verdict::Refused {
-            number: refusals::ENDS_INSIDE,
-            position: at,
-        };
-    }
-    if is_marked(s, at, a, b, c) {
-        Verdict::Taken
-    } else {
-        Verdict::Refused {
-            number: refusals::WRONG_MARK,
-            position: at,
+impl<'a> Reader<'a> {
+    // The number at the reader's position, with the position past it.
+    pub(crate) fn number(self, width: Width) -> Result<(u32, usize), Refusal>
+        ensures { result ≡ read_of (number_at (bytes_wide width) self.entry.bytes.now self.entry.at) }
+    {
+        match width {
+            Width::One => one_at(self.bytes, self.at),
+            Width::Two => two_at(self.bytes, self.at),
+            Width::Four => four_at(self.bytes, self.at),
         }
     }
-}
 
-// Whether a mark stands at a reader's position: the reader is taken apart.
-pub(crate) fn mark<'a>(reader: Reader<'a>, a: u8, b: u8, c: u8) -> Verdict
-    ensures { result ≡ verdict_of (mark_at (a ∷ b ∷ c ∷ []) reader.entry.bytes.now reader.entry.at) }
-{
-    mark_from(reader.bytes, reader.at, a, b, c)
-}
+    // Whether a mark stands at the reader's position. A mark is one field: it must be whole before it is compared.
+    pub(crate) fn mark(self, a: u8, b: u8, c: u8) -> Result<(), Refusal>
+        ensures { result ≡ verdict_of (mark_at (a ∷ b ∷ c ∷ []) self.entry.bytes.now self.entry.at) }
+    {
+        if !reaches(self.bytes, self.at, 3) {
+            return Err(Reason::EndsInside.at(self.at));
+        }
+        if !is_marked(self.bytes, self.at, a, b, c) {
+            return Err(Reason::WrongMark.at(self.at));
+        }
+        Ok(())
+    }
 
-// The reader with another position: past what was read.
-pub(crate) fn moved<'a>(reader: Reader<'a>, at: usize) -> Reader<'a>
-    ensures { (result.bytes ≡ reader.entry.bytes) × (result.at ≡ at) }
-{
-    Reader {
-        bytes: reader.bytes,
-        at,
+    // The reader with another position: past what was read.
+    pub(crate) fn moved(self, at: usize) -> Reader<'a>
+        ensures { (result.bytes ≡ self.entry.bytes) × (result.at ≡ at) }
+    {
+        Reader {
+            bytes: self.bytes,
+            at,
+        }
     }
 }

@@ -13,6 +13,7 @@ use Rattle.ground.specs.Outcome.{Outcome, and_more, numbered}
 use Rattle.ground.specs.Outcome.Outcome.{good, bad}
 use Rattle.ground.proofs.CountLaws.{left_suc}
 use Rattle.ground.proofs.OutcomeLaws.{more_none, more_more}
+use Rattle.ground.specs.declared.refusals.Reason.{Reason}
 
 -- of n to be read from at on, i are read, and stand in front in the array; p is the position past them
 pub record Filling {A : Type 0} (size : ℕ) (z : A) (item : ℕ → ℕ → Outcome A) (n at i p : ℕ) (out : List A) : Type 0 where
@@ -53,7 +54,7 @@ module _ {A : Type 0} (size : ℕ) (z : A) (item : ℕ → ℕ → Outcome A) (n
       }
 
   -- one was refused: so are the n
-  pub filling_bad : (m q : ℕ) → Filling size z item n at i p out → i < n → item i p ≡ bad m q → numbered item 0 n at ≡ bad m q
+  pub filling_bad : (m : Reason) (q : ℕ) → Filling size z item n at i p out → i < n → item i p ≡ bad m q → numbered item 0 n at ≡ bad m q
   unfolding numbered
   filling_bad m q f h e = f.same ∙ simp (left_suc n i h, e)
 

@@ -32,5 +32,7 @@ pub mod ChoosingLaws
 pub mod UniqueLaws
 pub mod FigureLaws
 pub mod UsedLaws
+pub mod MirrorLaws
+pub mod MadeLaws
 pub mod WritingLaws
 pub mod ByteLaws

@@ -2,6 +2,7 @@
 -- reading or a call gives), Refusing (of tests in order the first that fails refuses), Searching (the first number at which a test holds),
 -- Rising, Least and Order of lists, Choice (the first of greatest gain), Figures (what definitions give, and what a paper says).
 pub mod Tests
+pub mod Refusals
 pub mod Lists
 pub mod Outcome
 pub mod Bytes

@@ -1,24 +1,14 @@
 -- Lists, by tests that compute: those elements that pass, whether all or some pass, each element's list joined, the
 -- combinations of one element from each list, the numbers below another, a list in an array of fixed size.
-use Rattle.std.specs.Prelude.{Bool, true, false, ◌&&◌, ◌||◌, List, [], ◌∷◌, ◌++◌, map, ℕ, zero, suc, ◌+◌, ◌-◌, length, replicate}
+use Rattle.std.specs.Prelude.{Bool, true, false, cond, List, [], ◌∷◌, ◌++◌, map, ℕ, zero, suc, ◌+◌, ◌-◌, length, replicate}
+-- the library's words, which its iterators' answers are said with: the elements that pass, in their order; whether all or
+-- some pass; each element's list, joined in order
+pub use Rattle.std.specs.List.{filter, list_all as all, list_any as any, flat_map as each}
 
 module _ {A : Type 0} where
+  -- an element before a list, where a test passes
   abbrev pub cons_if : Bool → A → List A → List A
-  cons_if true x l = x ∷ l
-  cons_if false x l = l
-
-  -- the elements that pass, in their order
-  abbrev pub filter : (A → Bool) → List A → List A
-  filter p [] = []
-  filter p (x ∷ l) = cons_if (p x) x (filter p l)
-
-  abbrev pub all : (A → Bool) → List A → Bool
-  all p [] = true
-  all p (x ∷ l) = p x && all p l
-
-  abbrev pub any : (A → Bool) → List A → Bool
-  any p [] = false
-  any p (x ∷ l) = p x || any p l
+  cons_if b x l = cond b (x ∷ l) l
 
   abbrev pub empty : List A → Bool
   empty [] = true
@@ -32,11 +22,6 @@ module _ {A : Type 0} where
   -- a list in an array of a fixed size: the places behind it hold z
   unfoldable pub padded : ℕ → A → List A → List A
   padded size z l = l ++ replicate (size - length l) z
-
--- each element's list, joined in order
-abbrev pub each : {A B : Type 0} → (A → List B) → List A → List B
-each f [] = []
-each f (x ∷ l) = f x ++ each f l
 
 -- one element of each list, the first list slowest
 abbrev pub combinations : {A : Type 0} → List (List A) → List (List A)

@@ -1,12 +1,13 @@
--- What a reading or a call gives: a value with the position past it, or a refusal's number and position.
+-- What a reading or a call gives: a value with the position past it, or a refusal's reason and position.
 -- Readings are chained by `next`, and several of one kind are read by `many`.
-use Rattle.std.specs.Prelude.{ℕ, zero, suc, ◌+◌, List, [], ◌∷◌, ◌++◌}
-use Rattle.ground.specs.declared.Verdict.{Verdict}
-use Rattle.ground.specs.declared.Verdict.TheVariants.{Taken, Refused}
+use Rattle.std.specs.Prelude.{Result, Ok, Err, ℕ, zero, suc, ◌+◌, List, [], ◌∷◌, ◌++◌}
+use Rattle.ground.specs.declared.refusals.Reason.{Reason}
+use Rattle.ground.specs.declared.refusals.Refusal.{Refusal}
+use Rattle.ground.specs.Refusals.{refusal}
 
 pub data Outcome (A : Type 0) : Type 0 where
   good : A → ℕ → Outcome A
-  bad : ℕ → ℕ → Outcome A
+  bad : Reason → ℕ → Outcome A
 
 -- what comes after: by the value and the position past it, or the refusal as it is
 abbrev pub next : {A B : Type 0} → Outcome A → (A → ℕ → Outcome B) → Outcome B
@@ -27,11 +28,25 @@ numbered item i (suc n) at = next (item i at) (λ v p. and_more (v ∷ []) (numb
 abbrev pub many : {A : Type 0} → (ℕ → Outcome A) → ℕ → ℕ → Outcome (List A)
 many item = numbered (λ _. item) 0
 
--- an outcome as the parts of an answer: beside a refusal stands the position 0
-unfoldable pub verdict_of : {A : Type 0} → Outcome A → Verdict
-verdict_of (good v p) = Taken
-verdict_of (bad n p) = Refused n p
+-- what a reading answers: the value with the position past it, or the refusal
+unfoldable pub read_of : {A : Type 0} → Outcome A → Result (A × ℕ) Refusal
+read_of (good v p) = Ok (v, p)
+read_of (bad n p) = Err (refusal n p)
 
+-- what a call answers: the value alone, or the refusal
+unfoldable pub taken_of : {A : Type 0} → Outcome A → Result A Refusal
+taken_of (good v p) = Ok v
+taken_of (bad n p) = Err (refusal n p)
+
+-- or that it was taken
+abbrev pub Verdict : Type 0
+Verdict = Result (Unit {0}) Refusal
+
+unfoldable pub verdict_of : {A : Type 0} → Outcome A → Verdict
+verdict_of (good v p) = Ok (tt {0})
+verdict_of (bad n p) = Err (refusal n p)
+
+-- the position past it; beside a refusal stands 0
 unfoldable pub next_of : {A : Type 0} → Outcome A → ℕ
 next_of (good v p) = p
 next_of (bad n p) = 0

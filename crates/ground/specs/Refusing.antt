@@ -1,23 +1,23 @@
--- The refusals of a call: tests in order, each with its number and what goes with it, and then the effect. And what tests
+-- The refusals of a call: tests in order, each with its reason and what goes with it, and then the effect. And what tests
 -- that several calls begin with say alone.
 use Rattle.std.specs.Prelude.{Bool, List, [], ◌∷◌, ℕ}
 use Rattle.ground.specs.Tests.{pick}
-use Rattle.ground.specs.Outcome.{Outcome, verdict_of}
+use Rattle.ground.specs.Outcome.{Outcome, Verdict, verdict_of}
 use Rattle.ground.specs.Outcome.Outcome.{good, bad}
-use Rattle.ground.specs.declared.Verdict.{Verdict}
+use Rattle.ground.specs.declared.refusals.Reason.{Reason}
 
 pub record Test : Type 0 where
   pub fails : Bool
-  pub number : ℕ
+  pub reason : Reason
   pub position : ℕ
 
-abbrev pub test : Bool → ℕ → ℕ → Test
-test fails number position = record { fails = fails; number = number; position = position }
+abbrev pub test : Bool → Reason → ℕ → Test
+test fails reason position = record { fails = fails; reason = reason; position = position }
 
 -- the first test that fails refuses; where none does, what comes after
 abbrev pub judged : {A : Type 0} → List Test → Outcome A → Outcome A
 judged [] o = o
-judged (t ∷ ts) o = pick t.fails (bad t.number t.position) (judged ts o)
+judged (t ∷ ts) o = pick t.fails (bad t.reason t.position) (judged ts o)
 
 -- such tests alone
 unfoldable pub judgement : List Test → Verdict

@@ -1,12 +1,17 @@
 -- The laws of the listing: its parts put one behind the other are its lines.
-use mathlib.Core.Path.{◌≡◌, subst, ◌∙◌}
+use mathlib.Core.Path.{◌≡◌, ap, subst, ◌∙◌}
 use mathlib.Core.List.{List, ◌++◌}
-use Prim.Native.Nat.{ℕ, ◌≤◌}
+use Prim.Native.Nat.{ℕ, ◌+◌, ◌≤◌}
 use native.Mathlib.Nat.{zero-add}
 use native.Mathlib.Omega.{arith}
 use lib.ListN.{length, take}
+use lib.Seq.{sets, take_all}
+use Rattle.ground.proofs.PuttingLaws.{putting_done, putting_place}
+use Rattle.ground.proofs.WritingLaws.{Writing}
 use Rattle.ground.specs.Lists.{each}
-use Rattle.ground.specs.declared.Verdict.TheVariants.{Taken, Refused}
+use Rattle.std.specs.Prelude.{Result, Ok, Err}
+use Rattle.ground.specs.Refusals.{number_of}
+use Rattle.ground.specs.declared.refusals.Refusal.{Refusal}
 use Rattle.fields.specs.Puts.{Puts, Fronts}
 use Rattle.paths.specs.declared.steps.Step.{Step}
 use Rattle.estimates.specs.declared.lines.Line.{Line}
@@ -40,32 +45,42 @@ module _ (o x y z t : List ℕ) (at a b c r : ℕ) where
       (four_put o x y at a b 25 30 27 (behind "site " p.site) (behind " assembly " p.assembly) (behind " total " p.total) f g
       z c h 27 (behind " local " p.local) m d i) j
 
+-- the lines of the steps, one after the other
+pub lines_put : (lines : List Line) (before : List ℕ) (at i p : ℕ) (out : List ℕ)
+    → Writing step_line 126 lines before at (length lines) i p out → length lines ≤ i → length lines ≤ 156
+    → Puts before at 19656 (each step_line lines) p out
+lines_put lines before at i p out w h few =
+    let e : take (length lines) lines ≡ lines = take_all (length lines) lines (omega arith) in (
+      putting_place step_line lines before at (length lines) i p out w.putting h ∙ ap (λ (l : List Line). at + length (each step_line l)) e,
+      putting_done step_line lines before at (length lines) i p out w.putting h ∙ ap (λ (l : List Line). sets before at (each step_line l)) e,
+      omega (arith, w.near, w.putting.within),
+    )
+
 module _ (o x y t : List ℕ) (a b r : ℕ) where
-  pub refusal_put : (number position : ℕ) → Puts o 0 28 (behind "refused " number) a x → Puts x a 21 (behind " " position) b y
-      → Puts y b 1 (text "\n") r t → Puts o 0 50 (refused_line number position) r t
+  pub refusal_put : (f : Refusal) (number : ℕ) → number ≡ number_of f.reason → Puts o 0 28 (behind "refused " number) a x
+      → Puts x a 21 (behind " " f.position) b y → Puts y b 1 (text "\n") r t
+      → Puts o 0 50 (refused_line (number_of f.reason) f.position) r t
   unfolding refused_line
-  refusal_put number position f g h =
-      three_put o x y 0 a b 28 21 1 (behind "refused " number) (behind " " position) (text "\n") f g t r h
+  refusal_put f number e u g h =
+      three_put o x y 0 a b 28 21 1 (behind "refused " (number_of f.reason)) (behind " " f.position) (text "\n") (rw e at u) g t r h
 
-  pub plan_put : (p : Plan) → Puts o 0 38 heading a x → Puts x a 19656 (each step_line (take p.count p.lines)) b y
-      → Puts y b 110 (last_line p) r t → Puts o 0 19804 (plan_lines p) r t
+  pub plan_put : (p : Plan) (lines : List Line) → lines ≡ take p.count p.lines → Puts o 0 38 heading a x
+      → Puts x a 19656 (each step_line lines) b y → Puts y b 110 (last_line p) r t → Puts o 0 19804 (plan_lines p) r t
   unfolding plan_lines
-  plan_put p f g h =
-      three_put o x y 0 a b 38 19656 110 heading (each step_line (take p.count p.lines)) (last_line p) f g t r h
+  plan_put p lines e f g h =
+      three_put o x y 0 a b 38 19656 110 heading (each step_line (take p.count p.lines)) (last_line p) f (rw e at g) t r h
 
--- ---- by the verdict
+-- ---- a plan, or the refusal
 
-module _ (f : Plan) (o t : List ℕ) (r : ℕ) where
-  front : (most : ℕ) (l : List ℕ) → most ≤ 19804 → Puts o 0 most l r t → listing f ≡ l → Fronts o 19804 (listing f) r t
-  front most l h (p, q, u) e = (p ∙ rw e (zero-add (length l)), q ∙ rw e, omega arith)
-
-  pub listing_taken : f.verdict ≡ Taken → Puts o 0 19804 (plan_lines f) r t → Fronts o 19804 (listing f) r t
+module _ (o t : List ℕ) (r : ℕ) (a : Result Plan Refusal) where
+  pub listing_taken : (f : Plan) → a ≡ Ok f → Puts o 0 19804 (plan_lines f) r t → Fronts o 19804 (listing a) r t
   unfolding listing
-  listing_taken v p = front 19804 (plan_lines f) (omega arith) p (rw v)
+  listing_taken f e (p, q, u) = rw e (p ∙ zero-add (length (plan_lines f)), q, omega arith)
 
-  pub listing_refused : (n q : ℕ) → f.verdict ≡ Refused n q → Puts o 0 50 (refused_line n q) r t → Fronts o 19804 (listing f) r t
+  pub listing_refused : (x : Refusal) → a ≡ Err x → Puts o 0 50 (refused_line (number_of x.reason) x.position) r t
+      → Fronts o 19804 (listing a) r t
   unfolding listing
-  listing_refused n q v p = front 50 (refused_line n q) (omega arith) p (rw v)
+  listing_refused x e (p, q, u) = rw e (p ∙ zero-add (length (refused_line (number_of x.reason) x.position)), q, omega arith)
 
-pub listed : (p q : Plan) (o t : List ℕ) (r : ℕ) → p ≡ q → Fronts o 19804 (listing p) r t → Fronts o 19804 (listing q) r t
-listed p q o t r e f = subst (λ (x : Plan). Fronts o 19804 (listing x) r t) e f
+pub listed : (p q : Result Plan Refusal) (o t : List ℕ) (r : ℕ) → p ≡ q → Fronts o 19804 (listing p) r t → Fronts o 19804 (listing q) r t
+listed p q o t r e f = subst (λ (x : Result Plan Refusal). Fronts o 19804 (listing x) r t) e f

@@ -1,8 +1,9 @@
 -- "Step lines hold the step, its benefit and its cost in the program handed out; the last line the site, assembly cost,
 -- total and local-only total. A refused envelope prints one line alone, as `refused 1 0`: number, then position."
-use Rattle.std.specs.Prelude.{List, ◌++◌, ℕ}
+use Rattle.std.specs.Prelude.{List, ◌++◌, ℕ, Result, Ok, Err}
 use Rattle.ground.specs.Lists.{each}
-use Rattle.ground.specs.declared.Verdict.TheVariants.{Taken, Refused}
+use Rattle.ground.specs.Refusals.{number_of}
+use Rattle.ground.specs.declared.refusals.Refusal.{Refusal}
 use Rattle.paths.specs.declared.steps.Step.{Step}
 use Rattle.estimates.specs.declared.lines.Line.{Line}
 use Rattle.planner.specs.Promise.{lines_in}
@@ -29,5 +30,6 @@ refused_line number position = behind "refused " number ++ behind " " position +
 unfoldable pub plan_lines : Plan → List ℕ
 plan_lines p = heading ++ each step_line (lines_in p) ++ last_line p
 
-unfoldable pub listing : Plan → List ℕ
-listing p = elim p.verdict [ Taken ↦ plan_lines p | Refused n q ↦ refused_line n q ]
+unfoldable pub listing : Result Plan Refusal → List ℕ
+listing (Ok p) = plan_lines p
+listing (Err x) = refused_line (number_of x.reason) x.position

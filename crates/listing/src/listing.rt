@@ -1,6 +1,8 @@
 // The lines that are printed of a plan: its heading, its steps, its last line; or the refusal alone.
-ghost use Rattle.std.specs.Prelude.{◌≤◌, take};
+ghost use Rattle.std.specs.Prelude.{◌≤◌, length};
 ghost use Rattle.ground.specs.Lists.{each};
+ghost use Rattle.ground.specs.Outcome.{taken_of};
+ghost use Rattle.ground.specs.Refusals.{number_of};
 ghost use Rattle.fields.specs.Puts.{Puts, Fronts};
 ghost use Rattle.envelopes.specs.Envelope.{read_envelope};
 ghost use Rattle.planner.specs.Plan.{plan_of};
@@ -8,7 +10,7 @@ ghost use Rattle.listing.specs.Listing.{step_text, step_line, last_line, plan_li
 
 use crate::texts;
 use estimates::lines::Line;
-use ground::Verdict;
+use ground::refusals::Refusal;
 use paths::steps::Step;
 use planner::plans::Plan;
 
@@ -35,18 +37,14 @@ fn put_step_line(out: &mut [u8], at: usize, line: Line) -> usize
     texts::put_words(out, c, b"\n")
 }
 
-// The lines of the steps in use.
-fn put_step_lines(out: &mut [u8], at: usize, lines: [Line; 156], count: u8) -> usize
-    requires { at ≤ 10000 }
-    ensures { Puts out.old at 19656 (each step_line (take count lines)) result out.new }
+// The lines of the steps. A line in decimals has no fixed length, so it is no part as those of a paper are.
+fn put_step_lines(out: &mut [u8], at: usize, lines: &[Line]) -> usize
+    requires { (at ≤ 10000) × (length lines.now ≤ 156) }
+    ensures { Puts out.old at 19656 (each step_line lines.now) result out.new }
 {
-    let end = ground::used::in_use(156, count);
-    let mut i: usize = 0;
     let mut p = at;
-    while i < end {
-        let line = lines[i];
-        p = put_step_line(out, p, line);
-        i += 1;
+    for line in lines {
+        p = put_step_line(out, p, *line);
     }
     p
 }
@@ -65,34 +63,35 @@ fn put_last_line(out: &mut [u8], at: usize, plan: Plan) -> usize
 fn put_plan(out: &mut [u8], plan: Plan) -> usize
     ensures { Puts out.old 0 19804 (plan_lines plan) result out.new }
 {
-    let lines = plan.lines;
+    let lines = ground::used::first(&plan.lines, plan.count);
     let a = texts::put_words(out, 0, b"left column right column benefit cost\n");
-    let b = put_step_lines(out, a, lines, plan.count);
+    let b = put_step_lines(out, a, lines);
     put_last_line(out, b, plan)
 }
 
-fn put_refusal(out: &mut [u8], number: u8, position: usize) -> usize
-    ensures { Puts out.old 0 50 (refused_line number position) result out.new }
+// The words that a refusal prints, as bytes: what a formatter promises does not say how far a short buffer goes.
+fn put_refusal(out: &mut [u8], refusal: Refusal) -> usize
+    ensures { Puts out.old 0 50 (refused_line (number_of refusal.reason) refusal.position) result out.new }
 {
+    let number = u8::from(refusal.reason);
     let a = texts::put_behind(out, 0, b"refused ", number as u64);
-    let b = texts::put_behind(out, a, b" ", position as u64);
+    let b = texts::put_behind(out, a, b" ", refusal.position as u64);
     texts::put_words(out, b, b"\n")
 }
 
-// The listing at the front of a buffer, as far as the buffer goes; and its length.
-pub fn put_listing(out: &mut [u8], plan: Plan) -> usize
+// The listing of a plan, or of the refusal, at the front of a buffer, as far as the buffer goes; and its length.
+pub fn put_listing(out: &mut [u8], plan: Result<Plan, Refusal>) -> usize
     ensures { Fronts out.old 19804 (listing plan) result out.new }
 {
-    let verdict = plan.verdict;
-    match verdict {
-        Verdict::Taken => put_plan(out, plan),
-        Verdict::Refused { number, position } => put_refusal(out, number, position),
+    match plan {
+        Ok(plan) => put_plan(out, plan),
+        Err(refusal) => put_refusal(out, refusal),
     }
 }
 
 // The same for an envelope's bytes.
 pub fn list_paper(out: &mut [u8], paper: &[u8]) -> usize
-    ensures { Fronts out.old 19804 (listing (plan_of (read_envelope paper.now))) result out.new }
+    ensures { Fronts out.old 19804 (listing (taken_of (plan_of (read_envelope paper.now)))) result out.new }
 {
     let plan = planner::planner::plan_paper(paper);
     put_listing(out, plan)

@@ -7,6 +7,7 @@ ghost use Rattle.listing.specs.Text.{decimal_in, decimal};
 use fields::numbers::Width;
 use fields::puts;
 
+// One byte, where the buffer goes that far: of a `get_mut` that finds none it is not known that the buffer stays.
 fn put_letter(out: &mut [u8], at: usize, letter: u8)
     ensures { out.new ≡ set out.old at letter }
 {
@@ -17,12 +18,10 @@ pub(crate) fn put_words(out: &mut [u8], at: usize, words: &[u8]) -> usize
     requires { (at ≤ 90000) × (length words.now ≤ 100) }
     ensures { Puts out.old at (length words.now) words.now result out.new }
 {
-    let mut i: usize = 0;
-    while i < words.len() {
-        put_letter(out, at + i, words[i]);
-        i += 1;
+    for (i, letter) in words.iter().enumerate() {
+        put_letter(out, at + i, *letter);
     }
-    at + i
+    at + words.len()
 }
 
 fn put_digit(out: &mut [u8], at: usize, digit: u64) -> usize

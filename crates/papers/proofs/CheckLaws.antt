@@ -1,37 +1,21 @@
--- The laws of both papers checked: what an answer says of the outcome, what good papers are, and each return.
-use mathlib.Core.Path.{◌≡◌, refl, sym, ap, ◌∙◌}
+-- The laws of both papers checked: what good papers are, and each return.
+use mathlib.Core.Path.{◌≡◌, refl, ap, ◌∙◌}
 use Prim.Native.Nat.{ℕ}
 use lib.ListN.{length}
-use Rattle.ground.specs.Outcome.{Outcome, next, next_of, verdict_of, value_of, leaves}
+use Rattle.std.specs.Prelude.{Result, Ok, Err}
+use Rattle.ground.specs.Outcome.{Outcome, next, taken_of}
 use Rattle.ground.specs.Outcome.Outcome.{good, bad}
-use Rattle.ground.specs.declared.Verdict.TheVariants.{Taken, Refused}
-use Rattle.ground.proofs.OutcomeLaws.{taken_is, refused_is, next_good}
-use Rattle.contents.specs.Parts.{no_envelope}
-use Rattle.envelopes.specs.Envelope.{check_envelope, shown_envelope, envelope_bytes}
+use Rattle.ground.specs.declared.refusals.Refusal.{Refusal}
+use Rattle.ground.proofs.OutcomeLaws.{next_good, value_good, call_ends, call_goes}
+use Rattle.envelopes.specs.Envelope.{check_envelope, envelope_bytes}
 use Rattle.envelopes.specs.Rules.{Within}
 use Rattle.contents.specs.declared.envelope.Envelope.{Envelope}
-use Rattle.envelopes.specs.declared.reading.EnvelopeRead.{EnvelopeRead}
-use Rattle.envelopes.proofs.ReadingLaws.{read_taken, read_refused}
 use Rattle.envelopes.proofs.ExactEnvelope.{check_sound, check_complete}
-use Rattle.papers.specs.Programs.{no_program, program_against, program_bytes, read_program, check_program, shown_program}
-use Rattle.papers.specs.Checks.{no_papers, papers_of, shown_papers, GoodPapers}
+use Rattle.papers.specs.Programs.{program_against, program_bytes, read_program, check_program}
+use Rattle.papers.specs.Checks.{papers_of, GoodPapers}
 use Rattle.papers.specs.declared.programs.Program.{Program}
-use Rattle.papers.specs.declared.programs.ProgramRead.{ProgramRead}
 use Rattle.papers.specs.declared.checks.Papers.{Papers}
-use Rattle.papers.specs.declared.checks.PapersRead.{PapersRead}
-use Rattle.papers.proofs.ProgramCodeLaws.{program_taken, program_refused}
 use Rattle.papers.proofs.ExactPrograms.{program_bytes_lem, program_exact, program_complete}
-
-pub papers_taken : (o : Outcome Papers) (x : PapersRead) → x ≡ shown_papers o → x.verdict ≡ Taken → o ≡ good x.papers (next_of o)
-papers_taken o x e g = taken_is no_papers o (sym (ap (λ (c : PapersRead). c.verdict) e) ∙ g) ∙ simp e
-
-pub papers_refused : (o : Outcome Papers) (x : PapersRead) (m q : ℕ) → x ≡ shown_papers o → x.verdict ≡ Refused m q → o ≡ bad m q
-papers_refused o x m q e g = refused_is o m q (sym (ap (λ (c : PapersRead). c.verdict) e) ∙ g)
-
-pub papers_none : (m q : ℕ) (e : Envelope) (p : Program) → e ≡ no_envelope → p ≡ no_program
-    → record { verdict = Refused m q; papers = record { envelope = e; program = p } } ≡ shown_papers (bad m q)
-unfolding verdict_of leaves
-papers_none m q e p f g = rw (f, g) refl
 
 pub papers_sound : (e : Envelope) (p : Program) (q : Papers) (u : ℕ) → papers_of e p ≡ good q u → GoodPapers q
 unfolding papers_of
@@ -60,58 +44,50 @@ papers_complete q g =
 
 -- ---- each return
 
-module _ (e : Envelope) (p : Program) (c : EnvelopeRead) (g : c ≡ shown_envelope (check_envelope e)) where
-  pub papers_envelope : (m q : ℕ) (z : PapersRead) → c.verdict ≡ Refused m q → z ≡ shown_papers (bad m q) → z ≡ shown_papers (papers_of e p)
+module _ (e : Envelope) (p : Program) (c : Result Envelope Refusal) (g : c ≡ taken_of (check_envelope e)) where
+  pub papers_no_envelope : (x : Refusal) → c ≡ Err x → Err x ≡ taken_of (papers_of e p)
   unfolding papers_of
-  papers_envelope m q z h k = k ∙ simp (read_refused (check_envelope e) c m q g h)
+  papers_no_envelope x h = call_ends (check_envelope e) _ c g x h
 
-  module _ (h : c.verdict ≡ Taken) where
-    taken : check_envelope e ≡ good c.envelope (next_of (check_envelope e))
-    taken = read_taken (check_envelope e) c g h
+  module _ (f : Envelope) (h : c ≡ Ok f) where
+    pub papers_within : Within f
+    papers_within = let (q, o) = value_good (check_envelope e) c f g h in (check_sound e f q o).0.0
 
-    pub papers_within : Within c.envelope
-    papers_within = (check_sound e c.envelope (next_of (check_envelope e)) taken).0.0
-
-    module _ (x : ProgramRead) (k : x ≡ shown_program (program_against c.envelope (program_bytes p))) where
-      as_papers : papers_of e p
-          ≡ next (program_against c.envelope (program_bytes p)) (λ q at. good (record { envelope = c.envelope; program = q }) at)
+    module _ (r : Result Program Refusal) (k : r ≡ taken_of (program_against f (program_bytes p))) where
+      pub papers_no_program : (x : Refusal) → r ≡ Err x → Err x ≡ taken_of (papers_of e p)
       unfolding papers_of
-      as_papers =
-          ap
-          (λ (o : Outcome Envelope).
-          next o (λ f _. next (program_against f (program_bytes p)) (λ q at. good (record { envelope = f; program = q }) at)))
-          taken
+      papers_no_program x v =
+          call_goes (check_envelope e) _ c g f _ h λ u o. call_ends (program_against f (program_bytes p)) _ r k x v
 
-      pub papers_program : (m q : ℕ) (z : PapersRead) → x.verdict ≡ Refused m q → z ≡ shown_papers (bad m q) → z ≡ shown_papers (papers_of e p)
-      papers_program m q z v y = y ∙ simp (as_papers, program_refused (program_against c.envelope (program_bytes p)) x m q k v)
-
-      pub papers_good : x.verdict ≡ Taken
-          → record { verdict = Taken; papers = record { envelope = c.envelope; program = x.program } } ≡ shown_papers (papers_of e p)
-      unfolding verdict_of leaves
-      papers_good v = simp (as_papers, program_taken (program_against c.envelope (program_bytes p)) x k v)
+      pub papers_are : (q : Program) → r ≡ Ok q → Ok (record { envelope = f; program = q }) ≡ taken_of (papers_of e p)
+      unfolding papers_of taken_of
+      papers_are q v =
+          call_goes (check_envelope e) _ c g f _ h λ u o. call_goes (program_against f (program_bytes p)) _ r k q _ v λ w y. refl
 
 -- ---- the program alone: what the papers answer, without the envelope
 
 abbrev both : Envelope → Program → ℕ → Outcome Papers
 both f q at = good (record { envelope = f; program = q }) at
 
-abbrev second : Outcome Papers → ProgramRead
-second o = record { verdict = verdict_of o; program = (value_of no_papers o).program }
+abbrev second : Outcome Papers → Outcome Program
+second o = next o (λ q at. good q.program at)
 
-with_envelope : (f : Envelope) (x : Outcome Program) → second (next x (both f)) ≡ shown_program x
-unfolding verdict_of leaves
+with_envelope : (f : Envelope) (x : Outcome Program) → second (next x (both f)) ≡ x
 with_envelope f (good q v) = refl
 with_envelope f (bad n v) = refl
 
-alone : (o : Outcome Envelope) (read : Envelope → Outcome Program)
-    → second (next o (λ f _. next (read f) (both f))) ≡ shown_program (next o (λ f _. read f))
-unfolding verdict_of leaves
+alone : (o : Outcome Envelope) (read : Envelope → Outcome Program) → second (next o (λ f _. next (read f) (both f))) ≡ next o (λ f _. read f)
 alone (bad n u) read = refl
 alone (good f u) read = with_envelope f (read f)
 
-pub program_alone : (e : Envelope) (p : Program) (x : PapersRead) → x ≡ shown_papers (papers_of e p)
-    → record { verdict = x.verdict; program = x.papers.program } ≡ shown_program (check_program e p)
-unfolding papers_of check_program read_program
-program_alone e p x h =
-    ap (λ (y : PapersRead). record { verdict = y.verdict; program = y.papers.program }) h
-    ∙ alone (check_envelope e) (λ f. program_against f (program_bytes p))
+module _ (e : Envelope) (p : Program) (r : Result Papers Refusal) (g : r ≡ taken_of (papers_of e p)) where
+  as_program : second (papers_of e p) ≡ check_program e p
+  unfolding papers_of check_program read_program
+  as_program = alone (check_envelope e) (λ f. program_against f (program_bytes p))
+
+  pub program_refused : (x : Refusal) → r ≡ Err x → Err x ≡ taken_of (check_program e p)
+  program_refused x h = call_ends (papers_of e p) _ r g x h ∙ ap taken_of as_program
+
+  pub program_alone : (q : Papers) → r ≡ Ok q → Ok q.program ≡ taken_of (check_program e p)
+  unfolding taken_of
+  program_alone q h = call_goes (papers_of e p) _ r g q _ h (λ u o. refl) ∙ ap taken_of as_program

@@ -12,7 +12,7 @@ use Rattle.ground.specs.Bytes.{bytes_of}
 use Rattle.ground.specs.Outcome.Outcome.{good}
 use Rattle.ground.proofs.EveryLaws.{every_map, every_take}
 use Rattle.ground.proofs.ByteLaws.{Tells, number_tells, all_tell}
-use Rattle.fields.specs.declared.puts.Written.TheVariants.{Length}
+use Rattle.std.specs.Prelude.{Ok}
 use Rattle.fields.proofs.PutLaws.{written_back}
 use Rattle.entries.specs.Places.{place_bytes}
 use Rattle.envelopes.specs.Rules.{Within}
@@ -98,7 +98,7 @@ check_exact e fits p r q h = (sound, complete)
     complete (within, acceptable, is, end) = rw (is, end) (read_complete e within p acceptable)
 
 -- What the writer leaves in the buffer, as far as the length that it answers, reads as the program that was written.
-pub program_written_back : (e : Envelope) → Fits e → (p : Program) → ProgramFits p → (out : List ℕ) (n : ℕ) → program_written e p out ≡ Length n
+pub program_written_back : (e : Envelope) → Fits e → (p : Program) → ProgramFits p → (out : List ℕ) (n : ℕ) → program_written e p out ≡ Ok n
     → read_program e (take n (program_written_in e p out)) ≡ good (tidy_program p) n
 unfolding check_program write_program_of
 program_written_back e fits p h out n w =

@@ -18,7 +18,7 @@ use Rattle.ground.proofs.SearchingLaws.{some_at, any_numbers}
 use Rattle.ground.proofs.CollectingLaws.{padded_take}
 use Rattle.ground.proofs.OutcomeLaws.{next_good}
 use Rattle.ground.proofs.ByteLaws.{bytes_bytes, bytes_append, bytes_each}
-use Rattle.fields.specs.Refusals.{left_over, not_legal}
+use Rattle.ground.specs.declared.refusals.Reason.TheVariants.{LeftOver, NotLegal}
 use Rattle.fields.specs.Exact.{Reads, Exact}
 use Rattle.fields.proofs.ExactReading.{done, tested, restated, last, whole_paper, chained, numbered_exact}
 use Rattle.fields.proofs.ExactNumbers.{in_exact, that_exact, head_exact}
@@ -82,7 +82,7 @@ step_exact e small s i at =
     restated s at (λ t _ _. simp append-nil) (λ t _ h. h.1.1.0) (λ t _ h. ((legal_named e t h).0, ((legal_named e t h).1, (h, refl))))
     (chained s at (λ t. t.left) (place_exact e.relation_count small e.relations s at)
     (λ a p _. chained s p (λ t. t.right) (place_exact e.relation_count small e.relations s p)
-    (λ b q _. tested s q (legal e (step a b)) (step a b) not_legal i)
+    (λ b q _. tested s q (legal e (step a b)) (step a b) NotLegal i)
     (λ b t q _ h. ap (λ (x : Step). x.right) h.1))
     (λ a t q _ h. ap (λ (x : Step). x.left) h.1.1))
 
@@ -117,7 +117,7 @@ program_reads e within s =
     (λ site q _. chained s q (λ x. x.count) (in_exact 1 s q 0 156 (omega arith))
     (λ n u _. chained s u steps_of
     (numbered_exact s (step_at (legal e) e s) step_bytes (λ t. legal e t ≡ true) (step_exact e (omega (arith, within.relations)) s) 0 n u)
-    (λ steps z _. last s z left_over (done s z (program_with site steps)))
+    (λ steps z _. last s z LeftOver (done s z (program_with site steps)))
     (λ steps p q _ h. ap steps_of h.0 ∙ padded_take 156 no_step steps))
     (λ n p q _ h. ap (λ (x : Program). x.count) h.1.0 ∙ h.0.1))
     (λ site p q _ h. ap (λ (x : Program). x.site) h.1.1.0))

@@ -8,6 +8,7 @@ use Rattle.ground.specs.Figures.{Figure, Hold}
 use Rattle.ground.specs.Lists.{each, filter, below, numbers_from, padded}
 use Rattle.ground.specs.Outcome.{numbered}
 use Rattle.ground.specs.Outcome.Outcome.{good}
+use Rattle.ground.specs.Refusals.{number_of}
 use Rattle.ground.specs.Bytes.{little_end, bytes_of}
 use Rattle.ground.specs.Searching.{first_from}
 use Rattle.ground.specs.Rising.{insert, rising}
@@ -98,7 +99,7 @@ abbrev examples : List Figure
 examples = ends ++ heads ++ limits ++ rules ++ structs ++ paths ++ answers
 
 pub examples_hold : Hold examples
-unfolding numbered padded numbers_from little_end bytes_of first_from insert rising number_at number_that marked mark_at version_at head_of same_place place_at place_bytes columns_of column_at column_bytes columns_then relation_at relation_bytes domain_of selection_at joined join_at clause_at kind_bytes sizes_of relations_of clauses_of targets_of columns_in with_version with_sizes with_relations with_clauses with_targets site_of is_at holds names kept kept_columns first_bare ended filled list_into targets_then clauses_then relations_then sizes_then envelope_from envelope_bytes check_envelope edges on_path places is_place legal_by legal_steps step_bytes constants_of selections_by equalities_by steps_of step_at ended_program steps_then program_by read_program program_bytes check_program rows_in tables_in tables_of meets_all answer_on answer_rows
+unfolding number_of numbered padded numbers_from little_end bytes_of first_from insert rising number_at number_that marked mark_at version_at head_of same_place place_at place_bytes columns_of column_at column_bytes columns_then relation_at relation_bytes domain_of selection_at joined join_at clause_at kind_bytes sizes_of relations_of clauses_of targets_of columns_in with_version with_sizes with_relations with_clauses with_targets site_of is_at holds names kept kept_columns first_bare ended filled list_into targets_then clauses_then relations_then sizes_then envelope_from envelope_bytes check_envelope edges on_path places is_place legal_by legal_steps step_bytes constants_of selections_by equalities_by steps_of step_at ended_program steps_then program_by read_program program_bytes check_program rows_in tables_in tables_of meets_all answer_on answer_rows
 examples_hold = refl
 
 abbrev steps : List Step

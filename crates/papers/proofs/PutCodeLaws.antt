@@ -43,10 +43,12 @@ module _ (x : Program) where
   parts = simp append_assoc
 
   pub put_program : (o a b c t : List ℕ) (p r : ℕ) → Fronts o 5 head_part p a → b ≡ sets a p (bytes_of 1 x.site)
-      → c ≡ sets b (p + 1) (bytes_of 1 x.count) → Puts c (p + 2) 624 step_part r t → Fronts o 631 (program_bytes x) r t
-  put_program o a b c t p r head site count steps =
+      → c ≡ sets b (p + 1) (bytes_of 1 x.count) → (l : List Step) → l ≡ take x.count x.steps → Puts c (p + 2) 624 (each step_bytes l) r t
+      → Fronts o 631 (program_bytes x) r t
+  put_program o a b c t p r head site count l e steps =
       subst (λ (l : List ℕ). Fronts o 631 l r t) parts
       (then_put o c t (p + 2) r 7 624 ((head_part ++ bytes_of 1 x.site) ++ bytes_of 1 x.count) step_part
       (then_put o b c (p + 1) (p + 2) 6 1 (head_part ++ bytes_of 1 x.site) (bytes_of 1 x.count)
       (then_put o a b p (p + 1) 5 1 head_part (bytes_of 1 x.site) head (put_byte a b p (p + 1) x.site refl site))
-      (put_byte b c (p + 1) (p + 2) x.count (omega arith) count)) steps)
+      (put_byte b c (p + 1) (p + 2) x.count (omega arith) count))
+      (subst (λ (k : List Step). Puts c (p + 2) 624 (each step_bytes k) r t) e steps))

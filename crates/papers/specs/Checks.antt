@@ -1,7 +1,7 @@
 -- "An envelope, then a program, not given as bytes, also inside an end, is checked first as its bytes would be, with the same
 -- number and position." Both papers at once, as they read back.
 use Rattle.std.specs.Prelude.{◌≡◌}
-use Rattle.ground.specs.Outcome.{Outcome, next, verdict_of, value_of}
+use Rattle.ground.specs.Outcome.{Outcome, next}
 use Rattle.ground.specs.Outcome.Outcome.{good}
 use Rattle.contents.specs.Parts.{no_envelope}
 use Rattle.envelopes.specs.Envelope.{check_envelope}
@@ -10,7 +10,6 @@ use Rattle.contents.specs.declared.envelope.Envelope.{Envelope}
 use Rattle.papers.specs.Programs.{no_program, program_against, program_bytes, Acceptable, tidy_program}
 use Rattle.papers.specs.declared.programs.Program.{Program}
 use Rattle.papers.specs.declared.checks.Papers.{Papers}
-use Rattle.papers.specs.declared.checks.PapersRead.{PapersRead}
 
 abbrev pub no_papers : Papers
 no_papers = record { envelope = no_envelope; program = no_program }
@@ -20,10 +19,6 @@ papers_of e p =
     next (check_envelope e)
     (λ f _. next (program_against f (program_bytes p))
     (λ q at. good (record { envelope = f; program = q }) at))
-
--- what the function answers
-abbrev pub shown_papers : Outcome Papers → PapersRead
-shown_papers o = record { verdict = verdict_of o; papers = value_of no_papers o }
 
 -- good papers are within the sizes and rules, each as it reads back
 pub record GoodPapers (q : Papers) : Type 0 where

@@ -2,16 +2,16 @@
 -- left relation, left column, right relation, right column, 1 byte each." "Steps 0 to 156." "Within a clause or step the
 -- range of each number comes first, then 5, 6 or 8." "Papers are checked field by field as they stand, then 7, then 9
 -- (envelope only)."
-use Rattle.std.specs.Prelude.{ℕ, ◌≤◌, ◌≡◌, Bool, true, List, [], ◌∷◌, ◌++◌, length, take, replicate, nat_lt}
+use Rattle.std.specs.Prelude.{Result, ℕ, ◌≤◌, ◌≡◌, Bool, true, List, [], ◌∷◌, ◌++◌, length, take, replicate, nat_lt}
 use Rattle.ground.specs.Tests.{pick}
 use Rattle.ground.specs.Lists.{Every, each, padded}
-use Rattle.ground.specs.Outcome.{Outcome, next, numbered, verdict_of, value_of}
+use Rattle.ground.specs.Outcome.{Outcome, next, numbered}
 use Rattle.ground.specs.Outcome.Outcome.{good, bad}
 use Rattle.ground.specs.Bytes.{bytes_of}
-use Rattle.fields.specs.Refusals.{left_over, not_legal}
+use Rattle.ground.specs.declared.refusals.Reason.TheVariants.{LeftOver, NotLegal}
+use Rattle.ground.specs.declared.refusals.Refusal.{Refusal}
 use Rattle.fields.specs.Numbers.{number_in, number_that, head_of}
 use Rattle.fields.specs.Puts.{fitted, written_of, written_in}
-use Rattle.fields.specs.declared.puts.Written.{Written}
 use Rattle.entries.specs.Places.{no_place, place_at}
 use Rattle.contents.specs.Sites.{holds}
 use Rattle.envelopes.specs.Envelope.{check_envelope}
@@ -19,9 +19,6 @@ use Rattle.contents.specs.declared.envelope.Envelope.{Envelope}
 use Rattle.paths.specs.Steps.{step, legal, step_bytes}
 use Rattle.paths.specs.declared.steps.Step.{Step}
 use Rattle.papers.specs.declared.programs.Program.{Program}
-use Rattle.papers.specs.declared.programs.StepRead.{StepRead}
-use Rattle.papers.specs.declared.programs.StepRead.TheVariants.{Is, Not}
-use Rattle.papers.specs.declared.programs.ProgramRead.{ProgramRead}
 
 abbrev pub no_step : Step
 no_step = step no_place no_place
@@ -45,11 +42,11 @@ unfoldable pub step_at : (Step → Bool) → Envelope → List ℕ → ℕ → �
 step_at lawful e s i at =
     next (place_at e.relation_count e.relations s at)
     (λ a p. next (place_at e.relation_count e.relations s p)
-    (λ b q. pick (lawful (step a b)) (good (step a b) q) (bad not_legal i)))
+    (λ b q. pick (lawful (step a b)) (good (step a b) q) (bad NotLegal i)))
 
 -- nothing may be left over
 unfoldable pub ended_program : List ℕ → ℕ → Program → Outcome Program
-ended_program s at p = pick (nat_lt at (length s)) (bad left_over at) (good p at)
+ended_program s at p = pick (nat_lt at (length s)) (bad LeftOver at) (good p at)
 
 -- n steps, then the end
 abbrev pub steps_from : (Step → Bool) → Envelope → List ℕ → ℕ → ℕ → ℕ → Outcome Program
@@ -85,19 +82,11 @@ check_program e p = read_program e (program_bytes p)
 unfoldable pub write_program_of : Envelope → Program → ℕ → Outcome (List ℕ)
 write_program_of e p room = next (check_program e p) (λ _ _. fitted room (program_bytes p))
 
-abbrev pub program_written : Envelope → Program → List ℕ → Written
+abbrev pub program_written : Envelope → Program → List ℕ → Result ℕ Refusal
 program_written e p out = written_of (write_program_of e p (length out))
 
 abbrev pub program_written_in : Envelope → Program → List ℕ → List ℕ
 program_written_in e p out = written_in out (write_program_of e p (length out))
-
--- what the functions answer
-unfoldable pub shown_step : Outcome Step → StepRead
-shown_step (good s p) = Is s p
-shown_step (bad n p) = Not n p
-
-abbrev pub shown_program : Outcome Program → ProgramRead
-shown_program o = record { verdict = verdict_of o; program = value_of no_program o }
 
 -- ---- demand 2's "accepted exactly when it is well formed and each of its steps is legal", as a statement: whole says that the array
 -- is as long as the count asks

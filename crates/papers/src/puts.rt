@@ -1,6 +1,6 @@
 // A program put into a lent buffer, as far as the buffer goes. Each function answers the position past the bytes of its
 // part, which is no further than the part's greatest length, so that positions fit.
-ghost use Rattle.std.specs.Prelude.{◌≤◌, take};
+ghost use Rattle.std.specs.Prelude.{◌≤◌, length};
 ghost use Rattle.ground.specs.Lists.{each};
 ghost use Rattle.fields.specs.Puts.{Puts, Fronts};
 ghost use Rattle.paths.specs.Steps.{step_bytes};
@@ -24,29 +24,28 @@ fn put_step(out: &mut [u8], at: usize, step: Step) -> usize
     at + 4
 }
 
-// The steps, as far as they are in use.
-fn put_steps(out: &mut [u8], at: usize, steps: [Step; 156], count: u8) -> usize
-    requires { at ≤ 10000 }
-    ensures { Puts out.old at 624 (each step_bytes (take count steps)) result out.new }
+// The steps, one behind the other.
+fn put_steps(out: &mut [u8], at: usize, steps: &[Step]) -> usize
+    requires { (at ≤ 10000) × (length steps.now ≤ 156) }
+    ensures { Puts out.old at 624 (each step_bytes steps.now) result out.new }
 {
-    let end = ground::used::in_use(156, count);
-    let mut i: usize = 0;
-    let mut p = at;
-    while i < end {
-        let step = steps[i];
-        p = put_step(out, p, step);
-        i += 1;
+    let mut end = at;
+    for step in steps {
+        end = put_step(out, end, *step);
     }
-    p
+    end
 }
 
 // The bytes of a program, from the front of the buffer on.
 pub(crate) fn put_program(out: &mut [u8], program: Program) -> usize
     ensures { Fronts out.old 631 (program_bytes program) result out.new }
 {
-    let steps = program.steps;
     let p = puts::put_head(out, b'S', b'J', b'P', 1);
     puts::put_number(out, p, Width::One, program.site as u32);
     puts::put_number(out, p + 1, Width::One, program.count as u32);
-    put_steps(out, p + 2, steps, program.count)
+    put_steps(
+        out,
+        p + 2,
+        ground::used::first(&program.steps, program.count),
+    )
 }

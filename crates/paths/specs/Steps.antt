@@ -1,16 +1,15 @@
 -- "Legal steps R<A=B]S: R and S different, R.A and S.B on a path."
-use Rattle.std.specs.Prelude.{◌≡◌, Bool, true, false, ◌&&◌, not, List, map, ◌++◌, ◌⊎◌, ℕ, ◌<◌, nat_eq, nat_lt}
+use Rattle.std.specs.Prelude.{◌≡◌, Result, Bool, true, ◌&&◌, not, List, map, ◌++◌, ◌⊎◌, ℕ, ◌<◌, nat_eq, nat_lt}
 use Rattle.ground.specs.Lists.{filter, each, below}
-use Rattle.ground.specs.Outcome.{Outcome}
-use Rattle.ground.specs.Outcome.Outcome.{good, bad}
+use Rattle.ground.specs.Outcome.{Outcome, next, taken_of}
+use Rattle.ground.specs.Outcome.Outcome.{good}
+use Rattle.ground.specs.declared.refusals.Refusal.{Refusal}
 use Rattle.entries.specs.Places.{place, place_bytes}
 use Rattle.contents.specs.Parts.{relation_count, columns_in}
 use Rattle.entries.specs.declared.places.Place.{Place}
 use Rattle.contents.specs.declared.envelope.Envelope.{Envelope}
 use Rattle.paths.specs.Paths.{Node, column, edges, PathBetween, on_path}
 use Rattle.paths.specs.declared.steps.Step.{Step}
-use Rattle.paths.specs.declared.steps.Legality.{Legality}
-use Rattle.paths.specs.declared.steps.Legality.TheVariants.{Legal, NotLegal, Refused}
 
 abbrev pub step : Place → Place → Step
 step a b = record { left = a; right = b }
@@ -53,11 +52,6 @@ StepBefore s t = PlaceBefore s.left t.left ⊎ ((s.left ≡ t.left) × PlaceBefo
 unfoldable pub step_bytes : Step → List ℕ
 step_bytes s = place_bytes s.left ++ place_bytes s.right
 
-unfoldable pub legality : Bool → Legality
-legality true = Legal
-legality false = NotLegal
-
 -- the answer for an envelope that is a struct: it is checked first
-unfoldable pub legality_of : Outcome Envelope → Step → Legality
-legality_of (good e p) s = legality (legal e s)
-legality_of (bad n p) s = Refused n p
+abbrev pub legality_of : Outcome Envelope → Step → Result Bool Refusal
+legality_of o s = taken_of (next o (λ (e : Envelope) p. good (legal e s) p))

@@ -1,21 +1,18 @@
 -- The laws that the code of candidates goes by: the legal steps are those of 4,096 numbered steps that are legal, in the
 -- order of their numbers; and what each return answers.
 use mathlib.Core.Path.{◌≡◌, sym, ap, ap₂, ◌∙◌}
-use mathlib.Core.Bool.{Bool, true, false, not}
-use mathlib.Core.List.{List, map, Memᴰ}
+use mathlib.Core.Bool.{Bool, true, false}
+use mathlib.Core.List.{List, [], map, Memᴰ}
 use mathlib.Core.Logic.{inl, inr}
 use Prim.Native.Nat.{ℕ, ◌+◌, ◌*◌, ◌/◌, ◌%◌, ◌≤◌, ◌<◌}
 use native.Mathlib.Omega.{arith}
-use lib.ListN.{length, get_or, set, take, replicate, length-map}
-use lib.Seq.{length-take-le}
+use lib.ListN.{length, get_or, set, replicate, length-map}
 use Rattle.ground.specs.Lists.{filter, below}
 use Rattle.ground.proofs.CountLaws.{split}
-use Rattle.ground.proofs.ListLaws.{filter_mem, filter_from, filter_length, map_mem, get_d_map}
+use Rattle.ground.proofs.ListLaws.{filter_mem, filter_from, map_mem, get_d_map}
 use Rattle.ground.proofs.NumbersLaws.{below_length, below_get_d, below_mem}
 use Rattle.ground.proofs.OrderLaws.{numbers_ordered, ordered_filter, ordered_map}
-use Rattle.ground.proofs.UsedLaws.{used_inside}
-use Rattle.ground.proofs.CollectingLaws.{Collecting}
-use Rattle.entries.specs.Places.{place, same_place}
+use Rattle.entries.specs.Places.{place}
 use Rattle.envelopes.specs.Rules.{Within}
 use Rattle.entries.specs.declared.places.Place.{Place}
 use Rattle.contents.specs.declared.envelope.Envelope.{Envelope}
@@ -27,22 +24,11 @@ use Rattle.paths.specs.declared.steps.Step.{Step}
 use Rattle.paths.proofs.LabelLaws.{place_node}
 use Rattle.paths.proofs.StepLaws.{legal_step, legal_by_labels, legal_member, legal_ordered}
 use Rattle.paths.proofs.StepCountLaws.{legal_few}
-use Rattle.estimates.specs.Estimate.{same_step}
-use Rattle.planner.specs.Candidates.{shown_steps}
-use Rattle.planner.specs.declared.candidates.Steps.{Steps}
+use Rattle.planner.specs.Few.{shown_few}
+use Rattle.planner.specs.declared.few.Few.{Few}
+use Rattle.planner.proofs.FewLaws.{few_empty, few_of}
 use Rattle.ground.proofs.OrderedLaws.{ordered_same}
 use Rattle.ground.proofs.SiftingLaws.{Sifting, sifting_start, sifting_room, sifting_yes, sifting_no, sifting_done}
-
--- ---- the same step
-
-module _ (s t : Step) where
-  pub other_left : (b : Bool) → b ≡ same_place s.left t.left → b ≡ false → false ≡ same_step s t
-  unfolding same_step
-  other_left b f h = simp (← f, h)
-
-  pub same_left : (b c : Bool) → b ≡ same_place s.left t.left → b ≡ true → c ≡ same_place s.right t.right → c ≡ same_step s t
-  unfolding same_step
-  same_left b c f h g = g ∙ simp (← f, h)
 
 -- ---- the numbered steps
 
@@ -109,12 +95,6 @@ module _ (e : Envelope) where
       (λ s m. (legal_member e s).0 (filter_from (legal e) numbered_steps m).1)
       (λ s m. let t : legal e s ≡ true = (legal_member e s).1 m in filter_mem (legal e) (step_numbered e s t) t)
 
--- ---- what is collected, as the code hands it back
-
-pub sifted_steps : (l : List Step) (count : ℕ) (out : List Step) → Collecting 156 no_step l count out
-    → ◌≡◌ {A = Steps} (record { count = count; all = out }) (shown_steps l)
-sifted_steps l count out c = rw (c.counted, c.array)
-
 -- ---- the loop over the numbered steps
 
 numbered_length : length numbered_steps ≡ 4096
@@ -123,14 +103,16 @@ numbered_length = length-map (below 4096) numbered_step ∙ below_length 4096
 numbered_at : (k : ℕ) → k < 4096 → get_or numbered_steps k no_step ≡ numbered_step k
 numbered_at k h = get_d_map numbered_step (below 4096) k 0 no_step (omega (arith, below_length 4096)) ∙ ap numbered_step (below_get_d 4096 k 0 h)
 
-abbrev pub Listing : Envelope → ℕ → ℕ → List Step → Type 0
-Listing e k count out = Sifting 156 no_step (legal e) numbered_steps k count out
+abbrev pub Listing : Envelope → ℕ → Few Step → Type 0
+Listing e k x = Sifting 156 no_step (legal e) numbered_steps k x.count x.all
 
 module _ (e : Envelope) (w : Within e) where
-  pub listing_start : (z : Step) → z ≡ no_step → Listing e 0 0 (replicate 156 z)
-  listing_start z f = rw f (sifting_start 156 no_step (legal e) numbered_steps (rw (legal_numbered e) (legal_few e w)))
+  pub listing_start : (z : Step) → z ≡ no_step → (x : Few Step) → x ≡ shown_few z [] → Listing e 0 x
+  listing_start z f x g =
+      let h : x ≡ record { count = 0; all = replicate 156 no_step } = g ∙ ap (λ (s : Step). shown_few s []) f ∙ sym (few_empty no_step) in
+      rw h (sifting_start 156 no_step (legal e) numbered_steps (rw (legal_numbered e) (legal_few e w)))
 
-  module _ (k count : ℕ) (out : List Step) (g : Listing e k count out) (h : k < 4096) (l : Labels) (u : l ≡ record { of = labels_of e })
+  module _ (k : ℕ) (x : Few Step) (g : Listing e k x) (h : k < 4096) (l : Labels) (u : l ≡ record { of = labels_of e })
       (s : Step) (v : s ≡ numbered_step k) (b : Bool) (f : b ≡ legal_by (by_labels l.of e) e s) where
     inside : k < length numbered_steps
     inside = omega (arith, numbered_length)
@@ -141,62 +123,16 @@ module _ (e : Envelope) (w : Within e) where
     told : b ≡ legal e (get_or numbered_steps k no_step)
     told = f ∙ ap (λ (x : Labels). legal_by (by_labels x.of e) e s) u ∙ legal_by_labels e w s ∙ ap (legal e) (sym at)
 
-    pub listing_room : b ≡ true → count < 156
-    listing_room t = sifting_room 156 no_step (legal e) numbered_steps k count out g no_step inside (sym told ∙ t)
+    pub listing_room : b ≡ true → x.count < 156
+    listing_room t = sifting_room 156 no_step (legal e) numbered_steps k x.count x.all g no_step inside (sym told ∙ t)
 
-    pub listing_yes : b ≡ true → (count' : ℕ) (out' : List Step) → out' ≡ set out count s → count' ≡ count + 1 → Listing e (k + 1) count' out'
-    listing_yes t count' out' i j =
-        rw (i, j) (rw at at (sifting_yes 156 no_step (legal e) numbered_steps k count out g no_step inside (sym told ∙ t)))
+    pub listing_yes : b ≡ true → (y : Few Step) → y ≡ record { count = x.count + 1; all = set x.all x.count s } → Listing e (k + 1) y
+    listing_yes t y i = rw i (rw at at (sifting_yes 156 no_step (legal e) numbered_steps k x.count x.all g no_step inside (sym told ∙ t)))
 
-    pub listing_no : b ≡ false → (count' : ℕ) (out' : List Step) → out' ≡ out → count' ≡ count → Listing e (k + 1) count' out'
-    listing_no t count' out' i j = rw (i, j) (sifting_no 156 no_step (legal e) numbered_steps k count out g no_step inside (sym told ∙ t))
+    pub listing_no : b ≡ false → (y : Few Step) → y ≡ x → Listing e (k + 1) y
+    listing_no t y i = rw i (sifting_no 156 no_step (legal e) numbered_steps k x.count x.all g no_step inside (sym told ∙ t))
 
-  pub listing_done : (k count : ℕ) (out : List Step) → Listing e k count out → 4096 ≤ k
-      → ◌≡◌ {A = Steps} (record { count = count; all = out }) (shown_steps (legal_steps e))
-  listing_done k count out g h =
-      sifted_steps (legal_steps e) count out
-      (rw (legal_numbered e) at (sifting_done 156 no_step (legal e) numbered_steps k count out g (omega (arith, numbered_length))))
-
--- ---- the loop that takes a step out
-
-abbrev other : Step → Step → Bool
-other s t = not (same_step s t)
-
-abbrev pub Removing : Step → List Step → ℕ → ℕ → ℕ → List Step → Type 0
-Removing s steps n i count out = Sifting 156 no_step (other s) (take n steps) i count out
-
-module _ (s : Step) (steps : List Step) (n : ℕ) (few : n ≤ 156) (long : length steps ≡ 156) where
-  used_length : length (take n steps) ≡ n
-  used_length = length-take-le n steps (omega arith)
-
-  pub removing_start : (z : Step) → z ≡ no_step → Removing s steps n 0 0 (replicate 156 z)
-  removing_start z f =
-      rw f (sifting_start 156 no_step (other s) (take n steps) (omega (arith, used_length, filter_length (other s) (take n steps))))
-
-  module _ (i count : ℕ) (out : List Step) (g : Removing s steps n i count out) where
-    module _ (h : i < n) (b : Bool) (f : b ≡ same_step s (get_or steps i no_step)) where
-      here : i < length (take n steps)
-      here = omega (arith, used_length)
-
-      left_at_lem : get_or (take n steps) i no_step ≡ get_or steps i no_step
-      left_at_lem = used_inside steps n i no_step h
-
-      left_told : not b ≡ other s (get_or (take n steps) i no_step)
-      left_told = rw left_at_lem (ap not f)
-
-      pub removing_room : not b ≡ true → count < 156
-      removing_room t = sifting_room 156 no_step (other s) (take n steps) i count out g no_step here (sym left_told ∙ t)
-
-      pub removing_yes : not b ≡ true → (count' : ℕ) (out' : List Step) → out' ≡ set out count (get_or steps i no_step) → count' ≡ count + 1
-          → Removing s steps n (i + 1) count' out'
-      removing_yes t count' out' j k =
-          rw (j, k) (rw left_at_lem at (sifting_yes 156 no_step (other s) (take n steps) i count out g no_step here (sym left_told ∙ t)))
-
-      pub removing_no : not b ≡ false → (count' : ℕ) (out' : List Step) → out' ≡ out → count' ≡ count → Removing s steps n (i + 1) count' out'
-      removing_no t count' out' j k =
-          rw (j, k) (sifting_no 156 no_step (other s) (take n steps) i count out g no_step here (sym left_told ∙ t))
-
-    pub removing_done : n ≤ i → ◌≡◌ {A = Steps} (record { count = count; all = out }) (shown_steps (filter (other s) (take n steps)))
-    removing_done h =
-        sifted_steps (filter (other s) (take n steps)) count out
-        (sifting_done 156 no_step (other s) (take n steps) i count out g (omega (arith, used_length)))
+  pub listing_done : (k : ℕ) (x : Few Step) → Listing e k x → 4096 ≤ k → x ≡ shown_few no_step (legal_steps e)
+  listing_done k x g h =
+      few_of no_step (legal_steps e) x
+      (rw (legal_numbered e) at (sifting_done 156 no_step (legal e) numbered_steps k x.count x.all g (omega (arith, numbered_length))))

@@ -6,6 +6,7 @@ pub mod ChoiceLaws
 pub mod DropLaws
 pub mod PlanLaws
 pub mod PromiseLaws
+pub mod FewLaws
 pub mod SiteCodeLaws
 pub mod CandidateCodeLaws
 pub mod ChoiceCodeLaws

@@ -8,17 +8,17 @@ use native.Mathlib.Omega.{arith}
 use borrow.Author.Tests.{lt-ltb, le-ltb}
 use lib.ListN.{length, get_or, replicate}
 use Rattle.ground.specs.Lists.{below}
-use Rattle.ground.specs.Outcome.{Outcome, next_of}
-use Rattle.ground.specs.declared.Verdict.TheVariants.{Taken, Refused}
+use Rattle.std.specs.Prelude.{Result, Ok, Err}
+use Rattle.ground.specs.Outcome.{Outcome, taken_of}
+use Rattle.ground.specs.declared.refusals.Refusal.{Refusal}
+use Rattle.ground.proofs.OutcomeLaws.{value_good, call_ends, call_goes}
 use Rattle.ground.proofs.ListLaws.{filter_from}
 use Rattle.ground.proofs.EveryLaws.{every_index}
 use Rattle.ground.proofs.CollectingLaws.{padded_nil}
 use Rattle.contents.specs.Sites.{holds}
 use Rattle.envelopes.specs.Rules.{Within, tidy}
-use Rattle.envelopes.specs.Envelope.{read_envelope, check_envelope, shown_envelope}
+use Rattle.envelopes.specs.Envelope.{read_envelope, check_envelope}
 use Rattle.contents.specs.declared.envelope.Envelope.{Envelope}
-use Rattle.envelopes.specs.declared.reading.EnvelopeRead.{EnvelopeRead}
-use Rattle.envelopes.proofs.ReadingLaws.{read_refused, read_taken}
 use Rattle.envelopes.proofs.ExactEnvelope.{envelope_exact, check_sound}
 use Rattle.papers.specs.Programs.{no_step, steps_of, program_with, Acceptable}
 use Rattle.paths.specs.declared.steps.Step.{Step}
@@ -27,10 +27,10 @@ use Rattle.estimates.specs.Profile.{local_profile}
 use Rattle.estimates.specs.Costs.{plain_costs, assembly_at}
 use Rattle.estimates.specs.Kind.{after_all, total}
 use Rattle.estimates.specs.Estimate.{kind_of, no_line, estimated}
-use Rattle.planner.specs.Plan.{sites_holding, site_for, greedy_steps, drops_at, after_drops, planned, plan_for, no_plan, plan_of}
+use Rattle.planner.specs.Plan.{sites_holding, site_for, greedy_steps, drops_at, after_drops, planned, plan_for, plan_of}
 use Rattle.estimates.specs.Ready.{Ready}
 use Rattle.estimates.specs.Ready.{Bounded}
-use Rattle.planner.specs.Candidates.{shown_steps}
+use Rattle.planner.specs.Few.{shown_few}
 use Rattle.estimates.specs.declared.profiles.Profile.{Profile}
 use Rattle.estimates.specs.declared.costs.Costs.{Costs}
 use Rattle.estimates.specs.declared.lines.Line.{Line}
@@ -52,27 +52,28 @@ module _ (k : Costs) (e : Envelope) (local : Profile) (w : Ready k e local) wher
   -- ---- the greedy program at its cheapest site, and drops
 
   module _ (g : Greedy)
-      (u : g ≡ record { steps = shown_steps (greedy_steps k e); profile = after_all (kind_of k e) (local_profile e) (greedy_steps k e) }) where
+      (u : g ≡ record { steps = shown_few no_step (greedy_steps k e); profile = after_all (kind_of k e) (local_profile e) (greedy_steps k e) }) where
     pub greedy_sited : Bounded k g.profile × ((site : ℕ) → assembly_at k e g.profile site < 16320000001)
     greedy_sited =
         after_sited k e local w g.profile (greedy_steps k e) (ap (λ (x : Greedy). x.profile) u)
         (part_legal k e (greedy_steps k e) (Sublistᴰ.refl (greedy_steps k e)))
 
-    module _ (site : ℕ) (v : site ≡ site_for k e g.profile) where
-      program_is : ◌≡◌ {A = Program} (record { site = site; count = g.steps.count; steps = g.steps.all }) (program_with site (greedy_steps k e))
-      program_is = rw u
+    module _ (site : ℕ) (v : site ≡ site_for k e g.profile) (p : Program)
+        (f : p ≡ record { site = site; count = g.steps.count; steps = g.steps.all }) where
+      program_is : p ≡ program_with site (greedy_steps k e)
+      unfolding shown_few
+      program_is = f ∙ rw u
 
-      pub greedy_acceptable : Acceptable e (record { site = site; count = g.steps.count; steps = g.steps.all })
+      pub greedy_acceptable : Acceptable e p
       greedy_acceptable =
           rw (program_is, v)
           (part_acceptable (site_for k e g.profile) (site_chosen k e g.profile w.within) (greedy_steps k e) (Sublistᴰ.refl (greedy_steps k e)))
 
-      pub after_drops_is : (r : Program)
-          → r ≡ program_with site (drops_at k e site (steps_of (record { site = site; count = g.steps.count; steps = g.steps.all })))
+      pub after_drops_is : (r : Program) → r ≡ program_with p.site (drops_at k e p.site (steps_of p))
           → r ≡ program_with (after_drops k e).site (after_drops k e).steps
       unfolding after_drops
       after_drops_is r h =
-          h ∙ ap (λ (p : Program). program_with site (drops_at k e site (steps_of p))) program_is
+          h ∙ ap (λ (q : Program). program_with q.site (drops_at k e q.site (steps_of q))) program_is
           ∙ rw (with_steps e site (greedy_steps k e), v, u)
 
   -- ---- the fallback
@@ -119,7 +120,6 @@ module _ (k : Costs) (e : Envelope) (local : Profile) (w : Ready k e local) wher
         → alone ≡ assembly_at k e local home
         → ◌≡◌ {A = Plan}
         (record {
-          verdict = Taken;
           site = p.site;
           count = x.count;
           lines = x.lines;
@@ -135,29 +135,23 @@ module _ (k : Costs) (e : Envelope) (local : Profile) (w : Ready k e local) wher
 pub plain_plan : (e : Envelope) (k : Costs) → k ≡ plain_costs → (x : Plan) → x ≡ plan_for k e → x ≡ plan_for plain_costs e
 plain_plan e k f x g = g ∙ rw f
 
--- ---- the envelope is checked first
+-- ---- the envelope is checked, or read, first
 
-pub no_plan_is : (m q : ℕ) (z : Line) → z ≡ no_line
-    → ◌≡◌ {A = Plan} (record { verdict = Refused m q; site = 0; count = 0; lines = replicate 156 z; assembly = 0; total = 0; local = 0 }) (no_plan m q)
-unfolding no_plan
-no_plan_is m q z h = rw h
-
-module _ (o : Outcome Envelope) (c : EnvelopeRead) (g : c ≡ shown_envelope o) (x : Plan) where
-  pub plan_refused : (m q : ℕ) → c.verdict ≡ Refused m q → x ≡ no_plan m q → x ≡ plan_of o
+module _ (o : Outcome Envelope) (r : Result Envelope Refusal) (g : r ≡ taken_of o) where
+  pub plan_refused : (x : Refusal) → r ≡ Err x → Err x ≡ taken_of (plan_of o)
   unfolding plan_of
-  plan_refused m q v h = h ∙ rw (read_refused o c m q g v)
+  plan_refused x h = call_ends o _ r g x h
 
-  pub plan_taken : c.verdict ≡ Taken → x ≡ plan_for plain_costs c.envelope → x ≡ plan_of o
-  unfolding plan_of
-  plan_taken v h = h ∙ sym (rw (read_taken o c g v))
+  pub plan_taken : (e : Envelope) → r ≡ Ok e → (x : Plan) → x ≡ plan_for plain_costs e → Ok x ≡ taken_of (plan_of o)
+  unfolding plan_of taken_of
+  plan_taken e h x u = call_goes o _ r g e (Ok x) h (λ p f. ap Ok u)
 
-pub good_envelope : (e : Envelope) (c : EnvelopeRead) → c ≡ shown_envelope (check_envelope e) → c.verdict ≡ Taken
-    → Within c.envelope × (tidy c.envelope ≡ c.envelope)
-good_envelope e c g v = (check_sound e c.envelope (next_of (check_envelope e)) (read_taken (check_envelope e) c g v)).0
+pub good_envelope : (e : Envelope) (r : Result Envelope Refusal) → r ≡ taken_of (check_envelope e) → (c : Envelope) → r ≡ Ok c
+    → Within c × (tidy c ≡ c)
+good_envelope e r g c h = let (p, o) = value_good (check_envelope e) r c g h in (check_sound e c p o).0
 
--- ---- the envelope is read first
-
-pub good_paper : (s : List ℕ) → ((i : ℕ) → i < length s → get_or s i 0 < 256) → (c : EnvelopeRead) → c ≡ shown_envelope (read_envelope s)
-    → c.verdict ≡ Taken → Within c.envelope × (tidy c.envelope ≡ c.envelope)
-good_paper s b c g v =
-    ((envelope_exact s c.envelope (next_of (read_envelope s)) (every_index (λ (x : ℕ). x < 256) 0 s b)).0 (read_taken (read_envelope s) c g v)).0
+pub good_paper : (s : List ℕ) → ((i : ℕ) → i < length s → get_or s i 0 < 256) → (r : Result Envelope Refusal) → r ≡ taken_of (read_envelope s)
+    → (c : Envelope) → r ≡ Ok c → Within c × (tidy c ≡ c)
+good_paper s b r g c h =
+    let (p, o) = value_good (read_envelope s) r c g h in
+    ((envelope_exact s c p (every_index (λ (x : ℕ). x < 256) 0 s b)).0 o).0

@@ -15,6 +15,8 @@ use borrow.Author.Tests.{lt-ltb, le-ltb}
 use lib.ListN.{length, get_or}
 use Rattle.ground.specs.Lists.{Every, filter, below}
 use Rattle.ground.specs.Order.{Ordered}
+use Rattle.std.specs.Prelude.{Ok}
+use Rattle.ground.specs.Outcome.{taken_of}
 use Rattle.ground.specs.Outcome.Outcome.{good}
 use Rattle.ground.proofs.CountLaws.{split}
 use Rattle.ground.proofs.ListLaws.{filter_mem, filter_from}
@@ -195,10 +197,11 @@ module _ (k : Costs) (e : Envelope) (w : Within e) where
   steps_are : steps_in (plan_for k e) ≡ (planned k e).steps
   steps_are = ap line_steps (plan_lines_lem k e) ∙ lines_steps k e (local_profile e) (planned k e).steps
 
-  plan_kept : PlanKept k e (plan_for k e)
+  plan_kept : PlanKept k e (Ok (plan_for k e))
   unfolding plan_for estimated
   plan_kept =
       record {
+        plan = plan_for k e;
         taken = refl;
         promise = plan_promise;
         steps = steps_are;
@@ -216,13 +219,13 @@ module _ (k : Costs) (e : Envelope) (w : Within e) where
 
 -- ---- what plan and plan_paper hand out for an envelope that was taken
 
-plan_holds : (e : Envelope) (p : ℕ) → Within e → PlanKept plain_costs e (plan_of (good e p))
-unfolding plan_of
+plan_holds : (e : Envelope) (p : ℕ) → Within e → PlanKept plain_costs e (taken_of (plan_of (good e p)))
+unfolding plan_of taken_of
 plan_holds e p w = plan_kept plain_costs e w
 
-pub plan_checked : (e f : Envelope) (p : ℕ) → check_envelope e ≡ good f p → PlanKept plain_costs f (plan_of (check_envelope e))
+pub plan_checked : (e f : Envelope) (p : ℕ) → check_envelope e ≡ good f p → PlanKept plain_costs f (taken_of (plan_of (check_envelope e)))
 plan_checked e f p h = rw h (plan_holds f p (check_sound e f p h).0.0)
 
 pub plan_read : (s : List ℕ) → Every (λ (x : ℕ). x < 256) s → (f : Envelope) (p : ℕ) → read_envelope s ≡ good f p
-    → PlanKept plain_costs f (plan_of (read_envelope s))
+    → PlanKept plain_costs f (taken_of (plan_of (read_envelope s)))
 plan_read s b f p h = rw h (plan_holds f p ((envelope_exact s f p b).0 h).0.0)

@@ -1,10 +1,9 @@
 -- "1. Local operations.", then points 2 to 5 of Choice, with the estimate of 01: from an envelope to the program with each step's
 -- benefit and cost in the program handed out, the site, assembly, total and local-only total.
-use Rattle.std.specs.Prelude.{List, ℕ, length, replicate}
+use Rattle.std.specs.Prelude.{List, ℕ, length}
 use Rattle.ground.specs.Lists.{filter, below}
-use Rattle.ground.specs.Outcome.{Outcome}
-use Rattle.ground.specs.Outcome.Outcome.{good, bad}
-use Rattle.ground.specs.declared.Verdict.TheVariants.{Refused}
+use Rattle.ground.specs.Outcome.{Outcome, next}
+use Rattle.ground.specs.Outcome.Outcome.{good}
 use Rattle.contents.specs.Sites.{is_at, holds}
 use Rattle.contents.specs.declared.envelope.Envelope.{Envelope}
 use Rattle.paths.specs.Steps.{legal_steps}
@@ -13,7 +12,7 @@ use Rattle.paths.specs.declared.steps.Step.{Step}
 use Rattle.estimates.specs.Profile.{local_profile}
 use Rattle.estimates.specs.Costs.{plain_costs, assembly_at}
 use Rattle.estimates.specs.Kind.{after_all}
-use Rattle.estimates.specs.Estimate.{kind_of, no_line, estimated}
+use Rattle.estimates.specs.Estimate.{kind_of, estimated}
 use Rattle.planner.specs.Choice.{Handed, greedy, site_among, drops, fallback}
 use Rattle.estimates.specs.declared.profiles.Profile.{Profile}
 use Rattle.estimates.specs.declared.costs.Costs.{Costs}
@@ -53,7 +52,6 @@ plan_for k e =
     let h = planned k e in
     let x = estimated k e h.steps h.site in
     record {
-      verdict = x.verdict;
       site = h.site;
       count = x.count;
       lines = x.lines;
@@ -64,19 +62,5 @@ plan_for k e =
 
 -- ---- of an envelope that is read, or a struct that is checked, first
 
--- a refusal, with nothing beside it
-unfoldable pub no_plan : ℕ → ℕ → Plan
-no_plan n p =
-    record {
-      verdict = Refused n p;
-      site = 0;
-      count = 0;
-      lines = replicate 156 no_line;
-      assembly = 0;
-      total = 0;
-      local = 0;
-    }
-
-unfoldable pub plan_of : Outcome Envelope → Plan
-plan_of (good e p) = plan_for plain_costs e
-plan_of (bad n p) = no_plan n p
+unfoldable pub plan_of : Outcome Envelope → Outcome Plan
+plan_of o = next o (λ e p. good (plan_for plain_costs e) p)

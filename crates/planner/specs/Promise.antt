@@ -3,11 +3,11 @@
 -- a relation, lowest number on a tie. Steps whose left relation is there, dearest first and earlier first on a tie: drop the
 -- step if the total at that site, estimated anew, becomes strictly lower .. So the total handed out is never above the
 -- local-only total." And what that says of the plan that is handed out.
-use Rattle.std.specs.Prelude.{◌≡◌, Bool, true, false, ◌⊎◌, ◌↔◌, ℕ, ◌+◌, ◌≤◌, ◌<◌, length, slice_index, slice_index_or, take}
+use Rattle.std.specs.Prelude.{◌≡◌, Bool, true, false, ◌⊎◌, ◌↔◌, ℕ, ◌+◌, ◌≤◌, ◌<◌, length, slice_index, slice_index_or, take, Result, Ok}
 use mathlib.Core.List.{List, [], ◌∷◌, ◌++◌, Memᴰ}
 use Rattle.ground.specs.Lists.{Every, below, sum}
 use Rattle.ground.specs.Order.{Ordered, Once}
-use Rattle.ground.specs.declared.Verdict.TheVariants.{Taken}
+use Rattle.ground.specs.declared.refusals.Refusal.{Refusal}
 use Rattle.contents.specs.Sites.{is_at, holds}
 use Rattle.contents.specs.declared.envelope.Envelope.{Envelope}
 use Rattle.paths.specs.Steps.{legal, legal_steps, StepBefore}
@@ -109,19 +109,20 @@ lines_in x = take x.count x.lines
 abbrev pub steps_in : Plan → List Step
 steps_in x = line_steps (lines_in x)
 
--- the plan has the steps and the site that are promised, each step with its benefit and cost in the profile that the steps
+-- there is a plan, and it has the steps and the site that are promised, each step with its benefit and cost in the profile that the steps
 -- before it leave
-pub record PlanKept (k : Costs) (e : Envelope) (x : Plan) : Type 0 where
-  pub taken : x.verdict ≡ Taken
+pub record PlanKept (k : Costs) (e : Envelope) (r : Result Plan Refusal) : Type 0 where
+  pub plan : Plan
+  pub taken : r ≡ Ok plan
   pub promise : PlanPromise k e
-  pub steps : steps_in x ≡ (planned k e).steps
-  pub site : x.site ≡ (planned k e).site
-  pub lines : lines_in x ≡ lines_of k e (local_profile e) (steps_in x)
-  pub lawful : Every (λ (s : Step). legal e s ≡ true) (steps_in x)
-  pub once : Once (steps_in x)
-  pub held : holds e x.site ≡ true
-  pub assembly : x.assembly ≡ assembly_at k e (after_all (kind_of k e) (local_profile e) (steps_in x)) x.site
-  pub total : x.total ≡ sum (costs_in (lines_in x)) + x.assembly
-  pub local : x.local ≡ assembly_at k e (local_profile e) (site_for k e (local_profile e))
-  pub most : x.total ≤ x.local
-  pub less : (steps_in x ≡ [] → ⊥) → x.total < x.local
+  pub steps : steps_in plan ≡ (planned k e).steps
+  pub site : plan.site ≡ (planned k e).site
+  pub lines : lines_in plan ≡ lines_of k e (local_profile e) (steps_in plan)
+  pub lawful : Every (λ (s : Step). legal e s ≡ true) (steps_in plan)
+  pub once : Once (steps_in plan)
+  pub held : holds e plan.site ≡ true
+  pub assembly : plan.assembly ≡ assembly_at k e (after_all (kind_of k e) (local_profile e) (steps_in plan)) plan.site
+  pub total : plan.total ≡ sum (costs_in (lines_in plan)) + plan.assembly
+  pub local : plan.local ≡ assembly_at k e (local_profile e) (site_for k e (local_profile e))
+  pub most : plan.total ≤ plan.local
+  pub less : (steps_in plan ≡ [] → ⊥) → plan.total < plan.local

@@ -1,5 +1,5 @@
 // The greedy program: of the unused legal steps the first of greatest benefit minus cost, again and again.
-ghost use Rattle.std.specs.Prelude.{◌≡◌, ℕ, ◌≤◌, ◌<◌, slice_index_or, take};
+ghost use Rattle.std.specs.Prelude.{◌≡◌, ℕ, ◌<◌, length, slice_index_or};
 ghost use Rattle.ground.specs.Choice.{first_of_greatest};
 ghost use Rattle.papers.specs.Programs.{no_step};
 ghost use Rattle.estimates.specs.Profile.{local_profile};
@@ -8,26 +8,19 @@ ghost use Rattle.estimates.specs.Kind.{after_all};
 ghost use Rattle.estimates.specs.Estimate.{kind_of};
 ghost use Rattle.planner.specs.Plan.{greedy_steps};
 ghost use Rattle.estimates.specs.Ready.{Ready};
-ghost use Rattle.planner.specs.Candidates.{shown_steps, shown_choice};
+ghost use Rattle.planner.specs.Few.{shown_few, shown_choice};
 ghost use Rattle.estimates.specs.Ready.{Bounded, Shrinks};
 
-use crate::candidates::Steps;
+use crate::few::Few;
 use contents::envelope::Envelope;
 use estimates::costs::Costs;
 use estimates::profiles::Profile;
 use paths::steps::Step;
 
-// The step of greatest gain, where one gains.
-#[derive(Clone, Copy)]
-pub(crate) enum Choice {
-    Chosen(Step),
-    Nothing,
-}
-
 // The greedy program and the profile that it leaves.
 #[derive(Clone, Copy)]
 pub(crate) struct Greedy {
-    pub steps: Steps,
+    pub steps: Few<Step>,
     pub profile: Profile,
 }
 
@@ -37,69 +30,46 @@ fn gain(costs: Costs, envelope: Envelope, profile: Profile, step: Step) -> u64
     ensures { result ≡ gain (kind_of costs envelope) profile step }
 {
     let line = estimates::estimator::line_of(costs, envelope, profile, step);
-    if line.cost < line.benefit {
-        line.benefit - line.cost
-    } else {
-        0
-    }
+    line.benefit.saturating_sub(line.cost)
 }
 
-// Of the first n steps the first of greatest gain.
+// Of some steps the first of greatest gain, where one gains.
 fn first_of_greatest(
     costs: Costs,
     envelope: Envelope,
     profile: Profile,
-    steps: [Step; 156],
-    n: u8,
-) -> Choice
-    requires { (n ≤ 156) × Bounded costs profile × ((i : ℕ) → i < n → Shrinks envelope profile (slice_index_or steps i no_step)) }
-    ensures { result ≡ shown_choice (first_of_greatest (gain (kind_of costs envelope) profile) (take n steps)) }
+    steps: &[Step],
+) -> Option<Step>
+    requires { Bounded costs profile × ((i : ℕ) → i < length steps.now → Shrinks envelope profile (slice_index_or steps.now i no_step)) }
+    ensures { result ≡ shown_choice (first_of_greatest (gain (kind_of costs envelope) profile) steps.now) }
 {
-    let mut best = papers::programs::no_step();
+    let mut best = None;
     let mut most: u64 = 0;
-    let mut i: usize = 0;
-    while i < n as usize {
-        let step = steps[i];
-        let more = gain(costs, envelope, profile, step);
+    for step in steps {
+        let more = gain(costs, envelope, profile, *step);
         if most < more {
-            best = step;
+            best = Some(*step);
             most = more;
         }
-        i += 1;
     }
-    if most == 0 {
-        Choice::Nothing
-    } else {
-        Choice::Chosen(best)
-    }
+    best
 }
 
 // From the profile behind local operations on.
 pub(crate) fn greedy_steps(costs: Costs, envelope: Envelope, local: Profile) -> Greedy
     requires { Ready costs envelope local }
-    ensures { result ≡ record { steps = shown_steps (greedy_steps costs envelope); profile = after_all (kind_of costs envelope) (local_profile envelope) (greedy_steps costs envelope) } }
+    ensures { result ≡ record { steps = shown_few no_step (greedy_steps costs envelope); profile = after_all (kind_of costs envelope) (local_profile envelope) (greedy_steps costs envelope) } }
 {
     let mut unused = crate::candidates::legal_steps(envelope);
     let mut now = local;
-    let mut all = [papers::programs::no_step(); 156];
-    let mut count: u8 = 0;
-    loop {
-        let left = unused.all;
-        let next = first_of_greatest(costs, envelope, now, left, unused.count);
-        let Choice::Chosen(step) = next else {
-            break;
-        };
-        let slot = count as usize;
-        all[slot] = step;
-        count += 1;
-        unused = crate::candidates::without(left, unused.count, step);
+    let mut steps = Few::empty(papers::programs::no_step());
+    while let Some(step) = first_of_greatest(costs, envelope, now, unused.listed()) {
+        steps.push(step);
+        unused = crate::candidates::without(unused.listed(), step);
         now = now.after_step(envelope, step);
     }
     Greedy {
-        steps: Steps {
-            count: count,
-            all: all,
-        },
+        steps: steps,
         profile: now,
     }
 }

@@ -1,17 +1,18 @@
 // The planner: the greedy program at its cheapest site, drops, and the fallback to no steps.
 ghost use Rattle.std.specs.Prelude.{◌≡◌};
+ghost use Rattle.ground.specs.Outcome.{taken_of};
 ghost use Rattle.envelopes.specs.Rules.{Within, tidy};
 ghost use Rattle.envelopes.specs.Envelope.{read_envelope, check_envelope};
 ghost use Rattle.papers.specs.Programs.{program_with};
 ghost use Rattle.estimates.specs.Costs.{plain_costs, assembly_at};
-ghost use Rattle.planner.specs.Plan.{site_for, after_drops, planned, plan_for, no_plan, plan_of};
+ghost use Rattle.planner.specs.Plan.{site_for, after_drops, planned, plan_for, plan_of};
 ghost use Rattle.estimates.specs.Ready.{Ready};
 
 use crate::plans::Plan;
 use contents::envelope::Envelope;
 use estimates::costs::Costs;
 use estimates::profiles::Profile;
-use ground::Verdict;
+use ground::refusals::Refusal;
 use papers::programs::Program;
 
 // The greedy program at its cheapest site, after drops.
@@ -21,13 +22,8 @@ fn after_drops(costs: Costs, envelope: Envelope, local: Profile) -> Program
 {
     let greedy = crate::choice::greedy_steps(costs, envelope, local);
     let behind = greedy.profile;
-    let steps = greedy.steps;
-    let all = steps.all;
-    let program = Program {
-        site: crate::sites::site_for(costs, envelope, behind),
-        count: steps.count,
-        steps: all,
-    };
+    let site = crate::sites::site_for(costs, envelope, behind);
+    let program = crate::numbers::program_of(site, greedy.steps);
     crate::drops::drops(costs, envelope, local, program)
 }
 
@@ -58,7 +54,6 @@ fn plan_for(costs: Costs, envelope: Envelope, local: Profile) -> Plan
     let estimate = estimates::estimator::estimated(costs, envelope, local, program);
     let lines = estimate.lines;
     Plan {
-        verdict: Verdict::Taken,
         site: program.site,
         count: estimate.count,
         lines: lines,
@@ -78,46 +73,18 @@ fn plan_plainly(envelope: Envelope) -> Plan
     plan_for(costs, envelope, local)
 }
 
-fn refused(number: u8, position: usize) -> Plan
-    ensures { result ≡ no_plan number position }
-{
-    Plan {
-        verdict: Verdict::Refused { number, position },
-        site: 0,
-        count: 0,
-        lines: [estimates::lines::no_line(); 156],
-        assembly: 0,
-        total: 0,
-        local: 0,
-    }
-}
-
 // The program for an envelope, which is checked first.
-pub fn plan(envelope: Envelope) -> Plan
-    ensures { result ≡ plan_of (check_envelope envelope) }
+pub fn plan(envelope: Envelope) -> Result<Plan, Refusal>
+    ensures { result ≡ taken_of (plan_of (check_envelope envelope)) }
 {
-    let read = envelopes::reading::check_envelope(envelope);
-    let verdict = read.verdict;
-    match verdict {
-        Verdict::Refused { number, position } => refused(number, position),
-        Verdict::Taken => {
-            let checked = read.envelope;
-            plan_plainly(checked)
-        }
-    }
+    let checked = envelopes::reading::check_envelope(envelope)?;
+    Ok(plan_plainly(checked))
 }
 
-// The same from the envelope's bytes.
-pub fn plan_paper(s: &[u8]) -> Plan
-    ensures { result ≡ plan_of (read_envelope s.now) }
+// The same from the envelope's bytes: a `?` and a call, as above.
+pub fn plan_paper(s: &[u8]) -> Result<Plan, Refusal>
+    ensures { result ≡ taken_of (plan_of (read_envelope s.now)) }
 {
-    let read = envelopes::reading::read_envelope(s);
-    let verdict = read.verdict;
-    match verdict {
-        Verdict::Refused { number, position } => refused(number, position),
-        Verdict::Taken => {
-            let taken = read.envelope;
-            plan_plainly(taken)
-        }
-    }
+    let taken = envelopes::reading::read_envelope(s)?;
+    Ok(plan_plainly(taken))
 }

@@ -1,12 +1,9 @@
 // The planner's answer.
 use estimates::lines::Line;
-use ground::Verdict;
 
-// The program handed out, with what it is expected to cost, and what local operations alone would; or the refusal, with
-// nothing beside it.
+// The program handed out, with what it is expected to cost, and what local operations alone would.
 #[derive(Clone, Copy)]
 pub struct Plan {
-    pub verdict: Verdict,
     pub site: u8,
     pub count: u8,
     pub lines: [Line; 156],

@@ -13,7 +13,7 @@ use estimates::profiles::Profile;
 // Above what assembly can cost anywhere.
 const TOP: u64 = 16320000001;
 
-// What assembly at a site costs, or TOP where the site holds no relation.
+// What assembly at a site costs, or TOP where the site holds no relation: so the least of all eight is that of a site that does.
 fn held_assembly(costs: Costs, envelope: Envelope, profile: Profile, site: u8) -> u64
     requires { Bounded costs profile }
     ensures { result ≡ pick (holds envelope site) (assembly_at costs envelope profile site) 16320000001 }
@@ -31,14 +31,12 @@ pub(crate) fn site_for(costs: Costs, envelope: Envelope, profile: Profile) -> u8
 {
     let mut best: u8 = 0;
     let mut least: u64 = TOP;
-    let mut site: u8 = 0;
-    while site < 8 {
+    for site in 0..8 {
         let cost = held_assembly(costs, envelope, profile, site);
         if cost < least {
             best = site;
             least = cost;
         }
-        site += 1;
     }
     best
 }

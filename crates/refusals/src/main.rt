@@ -21,10 +21,9 @@ const HERE: [u32; 6] = [2, 0, 1, 7, 2, 8];
 
 // Domains of 10 and 20; relation 0 with a column of each, relation 1 with a column of the first; a join; a target.
 fn small() -> Envelope {
-    let read = envelopes::reading::read_envelope(
+    envelopes::reading::read_envelope(
         b"CPN\x01\x00\x02\x0a\x00\x00\x00\x14\x00\x00\x00\x02\x01\x02\x05\x00\x00\x00\x00\x01\x05\x00\x00\x00\x01\x02\x03\x00\x00\x00\x02\x01\x05\x00\x00\x00\x00\x04\x02\x00\x00\x00\x01\x02\x00\x00\x01\x00\x01\x00\x01",
-    );
-    read.envelope
+    ).unwrap_or(contents::envelope::no_envelope())
 }
 
 fn place(relation: u8, column: u8) -> Place {
@@ -59,10 +58,9 @@ fn opening(
     tables: &[u32],
 ) -> io::Result<()> {
     let mut marks = [9u8; 3];
-    let opened = station::opening::open(envelope, program, site, RUN, tables, &mut marks);
-    let verdict = opened.verdict;
-    show::print_verdict(rt, what, verdict)?;
-    show::print_marks(rt, &marks)
+    let answer = station::opening::open(envelope, program, site, RUN, tables, &mut marks);
+    show::print_taken(rt, what, answer)?;
+    show::print_numbers(rt, "  marks", &marks)
 }
 
 fn joined(rt: &impl Print, what: &str, left: Place, right: Place) -> io::Result<()> {
@@ -124,17 +122,9 @@ fn openings(rt: &impl Print) -> io::Result<()> {
     opening(rt, "open at site 8", small(), three(), 8, &here)?;
     opening(rt, "open at site 257", small(), three(), 257, &here)?;
     let mut one = [9u8; 1];
-    let opened = station::opening::open(small(), three(), 1, RUN, &here, &mut one);
-    let verdict = opened.verdict;
-    show::print_verdict(rt, "open with one mark", verdict)?;
-    show::print_marks(rt, &one)
-}
-
-fn opened() -> End {
-    let here = HERE;
-    let mut marks = [9u8; 3];
-    let opened = station::opening::open(small(), three(), 1, RUN, &here, &mut marks);
-    opened.end
+    let answer = station::opening::open(small(), three(), 1, RUN, &here, &mut one);
+    show::print_taken(rt, "open with one mark", answer)?;
+    show::print_numbers(rt, "  marks", &one)
 }
 
 // ---- receiving
@@ -148,12 +138,11 @@ fn receiving_on(
     message: &[u32],
 ) -> io::Result<End> {
     let mut store = [9u32; 4];
-    let received = station::receiving::receive(end, tables, marks, &mut store, message);
-    let verdict = received.verdict;
-    let after = received.end;
-    show::print_verdict(rt, what, verdict)?;
-    show::print_marks(rt, marks)?;
-    show::print_words(rt, "  store", &store)?;
+    let mut after = end;
+    let answer = station::receiving::receive(&mut after, tables, marks, &mut store, message);
+    show::print_taken(rt, what, answer)?;
+    show::print_numbers(rt, "  marks", marks)?;
+    show::print_numbers(rt, "  store", &store)?;
     show::print_end(rt, after)?;
     Ok(after)
 }
@@ -226,8 +215,7 @@ fn receivings(rt: &impl Print, end: End) -> io::Result<End> {
     Ok(second)
 }
 
-fn unsound(rt: &impl Print) -> io::Result<()> {
-    let end = opened();
+fn unsound(rt: &impl Print, end: End) -> io::Result<()> {
     let mut many = end;
     many.applied = [3u32; 8];
     receiving(
@@ -272,21 +260,25 @@ fn delivered(rt: &impl Print, last: End) -> io::Result<()> {
     let mut marks = [0u8, 1];
     let mut message = [9u32; 5];
     let mut store = [9u32; 6];
-    station::making::make_rows(last, &here, &marks, 0, &mut message);
-    let received = station::receiving::receive(last, &here, &mut marks, &mut store, &message);
-    let verdict = received.verdict;
-    show::print_verdict(rt, "receive rows where they were made", verdict)?;
-    show::print_marks(rt, &marks)?;
-    show::print_words(rt, "  store", &store)?;
-    show::print_end(rt, received.end)
+    let mut end = last;
+    let _ = station::making::make_rows(end, &here, &marks, 0, &mut message);
+    let answer = station::receiving::receive(&mut end, &here, &mut marks, &mut store, &message);
+    show::print_taken(rt, "receive rows where they were made", answer)?;
+    show::print_numbers(rt, "  marks", &marks)?;
+    show::print_numbers(rt, "  store", &store)?;
+    show::print_end(rt, end)
 }
 
+// The first line says that the end is opened.
 fn main(rt: HostRuntime) -> io::Result<()> {
     openings(&rt)?;
-    let end = opened();
-    let last = receivings(&rt, end)?;
-    unsound(&rt)?;
-    making::makings(&rt, end, last)?;
-    making::lent(&rt, last)?;
-    delivered(&rt, last)
+    let mut marks = [9u8; 3];
+    if let Ok(end) = station::opening::open(small(), three(), 1, RUN, &HERE, &mut marks) {
+        let last = receivings(&rt, end)?;
+        unsound(&rt, end)?;
+        making::makings(&rt, end, last)?;
+        making::lent(&rt, last)?;
+        delivered(&rt, last)?;
+    }
+    Ok(())
 }

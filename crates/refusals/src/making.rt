@@ -1,22 +1,51 @@
 // Value messages and row messages made: taken, refused by the papers and the state, and refused by what is lent.
-use crate::show;
+use crate::{HERE, show};
 use ends::ends::End;
+use ground::refusals::Refusal;
+use station::making::{make_rows, make_values};
 use std::io;
 
-fn values(rt: &impl Print, what: &str, end: End, number: u32) -> io::Result<()> {
-    let here = crate::HERE;
-    let marks = [0u8, 1];
-    let mut message = [9u32; 5];
-    let made = station::making::make_values(end, &here, &marks, number, &mut message);
-    show::print_made(rt, what, made, &message)
+// A message by the call that makes it: the number is that of the step, or of the relation.
+fn made<F: FnOnce(End, &[u32], &[u8], u32, &mut [u32]) -> Result<usize, Refusal>>(
+    rt: &impl Print,
+    what: &str,
+    end: End,
+    tables: &[u32],
+    marks: &[u8],
+    make: F,
+    number: u32,
+    message: &mut [u32],
+) -> io::Result<()>
+    requires { F.IsAlwaysCallable make }
+{
+    let made = make(end, tables, marks, number, message);
+    show::print_made(rt, what, made, message)
+}
+
+fn values(rt: &impl Print, what: &str, end: End, step: u32) -> io::Result<()> {
+    made(
+        rt,
+        what,
+        end,
+        &HERE,
+        &[0u8, 1],
+        make_values,
+        step,
+        &mut [9u32; 5],
+    )
 }
 
 pub(crate) fn rows(rt: &impl Print, what: &str, end: End, relation: u32) -> io::Result<()> {
-    let here = crate::HERE;
-    let marks = [0u8, 1];
-    let mut message = [9u32; 6];
-    let made = station::making::make_rows(end, &here, &marks, relation, &mut message);
-    show::print_made(rt, what, made, &message)
+    made(
+        rt,
+        what,
+        end,
+        &HERE,
+        &[0u8, 1],
+        make_rows,
+        relation,
+        &mut [9u32; 6],
+    )
 }
 
 pub(crate) fn makings(rt: &impl Print, end: End, last: End) -> io::Result<()> {
@@ -28,13 +57,19 @@ pub(crate) fn makings(rt: &impl Print, end: End, last: End) -> io::Result<()> {
     rows(rt, "make rows of another site", last, 1)?;
     rows(rt, "make rows of no such relation", last, 256)?;
     rows(rt, "make rows of relation 0", last, 0)?;
-    let here = crate::HERE;
-    let marks = [0u8, 1];
-    let mut message = [9u32; 4];
-    let made = station::making::make_rows(last, &here, &marks, 0, &mut message);
-    show::print_made(rt, "make rows that do not fit", made, &message)
+    made(
+        rt,
+        "make rows that do not fit",
+        last,
+        &HERE,
+        &[0u8, 1],
+        make_rows,
+        0,
+        &mut [9u32; 4],
+    )
 }
 
+// The value message of step 1, and the row message of relation 0, where three words are lent.
 fn made_values(
     rt: &impl Print,
     what: &str,
@@ -42,9 +77,7 @@ fn made_values(
     tables: &[u32],
     marks: &[u8],
 ) -> io::Result<()> {
-    let mut message = [9u32; 3];
-    let made = station::making::make_values(end, tables, marks, 1, &mut message);
-    show::print_made(rt, what, made, &message)
+    made(rt, what, end, tables, marks, make_values, 1, &mut [9u32; 3])
 }
 
 fn made_rows(
@@ -54,13 +87,11 @@ fn made_rows(
     tables: &[u32],
     marks: &[u8],
 ) -> io::Result<()> {
-    let mut message = [9u32; 3];
-    let made = station::making::make_rows(end, tables, marks, 0, &mut message);
-    show::print_made(rt, what, made, &message)
+    made(rt, what, end, tables, marks, make_rows, 0, &mut [9u32; 3])
 }
 
 pub(crate) fn lent(rt: &impl Print, last: End) -> io::Result<()> {
-    let here = crate::HERE;
+    let here = HERE;
     let short = [2u32, 0, 1];
     let marks = [0u8, 1];
     let mut many = last;

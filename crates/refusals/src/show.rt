@@ -1,64 +1,37 @@
 // What is printed: how a call is answered, and what was lent, as it is afterwards.
 use ends::ends::End;
-use fields::puts::Written;
-use ground::Verdict;
+use ground::refusals::Refusal;
+use std::fmt::Display;
 use std::io;
 
-pub(crate) fn print_verdict(rt: &impl Print, what: &str, verdict: Verdict) -> io::Result<()> {
-    match verdict {
-        Verdict::Taken => println!(rt; "{what}: taken"),
-        Verdict::Refused { number, position } => {
-            println!(rt; "{what}: refused {number} {position}")
-        }
+pub(crate) fn print_taken<T: Drop>(
+    rt: &impl Print,
+    what: &str,
+    answer: Result<T, Refusal>,
+) -> io::Result<()> {
+    match answer {
+        Ok(_) => println!(rt; "{what}: taken"),
+        Err(refusal) => println!(rt; "{what}: {refusal}"),
     }
 }
 
-fn print_byte(rt: &impl Print, value: u8) -> io::Result<()> {
-    rt.print(value)
-}
-
-fn print_word(rt: &impl Print, value: u32) -> io::Result<()> {
-    rt.print(value)
-}
-
-pub(crate) fn print_marks(rt: &impl Print, marks: &[u8]) -> io::Result<()> {
-    print!(rt; "  marks")?;
-    for mark in marks {
-        print!(rt; " ")?;
-        print_byte(rt, *mark)?;
-    }
-    println!(rt;)
-}
-
-pub(crate) fn print_words(rt: &impl Print, what: &str, words: &[u32]) -> io::Result<()> {
+// A line of numbers.
+pub(crate) fn print_numbers<T: Display>(
+    rt: &impl Print,
+    what: &str,
+    numbers: &[T],
+) -> io::Result<()> {
     print!(rt; "{what}")?;
-    for word in words {
-        print!(rt; " ")?;
-        print_word(rt, *word)?;
+    for number in numbers {
+        print!(rt; " {number}")?;
     }
     println!(rt;)
-}
-
-fn flag(arrived: bool) -> u32 {
-    if arrived { 1 } else { 0 }
 }
 
 // Steps applied and row messages arrived of each relation, and the words used of the store.
 pub(crate) fn print_end(rt: &impl Print, end: End) -> io::Result<()> {
-    let applied = end.applied;
-    let a = end.arrived;
-    let arrived = [
-        flag(a[0]),
-        flag(a[1]),
-        flag(a[2]),
-        flag(a[3]),
-        flag(a[4]),
-        flag(a[5]),
-        flag(a[6]),
-        flag(a[7]),
-    ];
-    print_words(rt, "  applied", &applied)?;
-    print_words(rt, "  arrived", &arrived)?;
+    print_numbers(rt, "  applied", &end.applied)?;
+    print_numbers(rt, "  arrived", &end.arrived.map(u32::from))?;
     let used = end.used;
     println!(rt; "  used {used}")
 }
@@ -66,14 +39,12 @@ pub(crate) fn print_end(rt: &impl Print, end: End) -> io::Result<()> {
 pub(crate) fn print_made(
     rt: &impl Print,
     what: &str,
-    made: Written,
+    made: Result<usize, Refusal>,
     message: &[u32],
 ) -> io::Result<()> {
     match made {
-        Written::Length(n) => println!(rt; "{what}: made {n}")?,
-        Written::Refused { number, position } => {
-            print_verdict(rt, what, Verdict::Refused { number, position })?
-        }
+        Ok(length) => println!(rt; "{what}: made {length}")?,
+        Err(refusal) => println!(rt; "{what}: {refusal}")?,
     }
-    print_words(rt, "  message", message)
+    print_numbers(rt, "  message", message)
 }

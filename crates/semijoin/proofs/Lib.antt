@@ -1,6 +1,6 @@
 -- The laws of the semi-join: MarkLaws and ReducedLaws of a step, LocalLaws, RunLaws; by AnswerLaws the answer stays as it is.
 -- PromiseLaws and CallPromiseLaws have the two values that the floors above go by. TidyLaws: zeros not in use change nothing.
--- Figures: 01's figures on tables. Code in a name: what functions go by, Halving and Sieve in marks, Local, Run, Call in the calls.
+-- Figures: 01's figures on tables. Code in a name: what functions go by, Among and Sieve in marks, Local, Run, Call in the calls.
 pub mod MarkLaws
 pub mod ReducedLaws
 pub mod LocalLaws
@@ -10,7 +10,7 @@ pub mod TidyLaws
 pub mod RunLaws
 pub mod CallPromiseLaws
 pub mod Figures
-pub mod HalvingCodeLaws
+pub mod AmongCodeLaws
 pub mod SieveCodeLaws
 pub mod LocalCodeLaws
 pub mod CallCodeLaws

@@ -1,17 +1,14 @@
 -- What the functions on local operations answer: whether a row passes, the marks of one relation, the marks of all.
 use mathlib.Core.Path.{◌≡◌, refl, sym, ap, ◌∙◌}
-use mathlib.Core.Bool.{Bool, true, false, not, ◌&&◌, ◌||◌}
-use mathlib.Core.List.{List, [], ◌∷◌, map}
+use mathlib.Core.Bool.{Bool}
+use mathlib.Core.List.{List, [], map}
 use Prim.Native.Nat.{ℕ, suc, ◌+◌, ◌≤◌, ◌<◌, min}
 use native.Mathlib.Nat.{add-zero, zero-add}
 use native.Mathlib.Numerals.{add-one}
 use native.Mathlib.Omega.{arith}
 use lib.ListN.{length, get_or, take, drop, set, length-set, drop_of_length-le}
 use lib.Seq.{sets, length-sets, drop-cons}
-use lib.Dec.{eqb}
-use borrow.Author.Tests.{not-true, not-false}
-use Rattle.ground.specs.Tests.{pick}
-use Rattle.ground.specs.Lists.{all, any, each, below, numbers_from}
+use Rattle.ground.specs.Lists.{each, below, numbers_from}
 use Rattle.ground.proofs.CollectingLaws.{padded_take}
 use Rattle.ground.proofs.NumbersLaws.{each_below}
 use Rattle.ground.proofs.PuttingLaws.{sets_append}
@@ -20,7 +17,7 @@ use Rattle.envelopes.specs.Rules.{Within}
 use Rattle.contents.specs.declared.envelope.Envelope.{Envelope}
 use Rattle.paths.specs.Labels.{labels_of, by_labels}
 use Rattle.paths.specs.Implied.{selected, equal, selections_by, equalities_by, implied_selections, implied_equalities, shown_selections, shown_equalities}
-use Rattle.paths.specs.Meaning.{Row, Table, word_in}
+use Rattle.paths.specs.Meaning.{Row, Table}
 use Rattle.paths.specs.declared.labels.Labels.{Labels}
 use Rattle.paths.specs.declared.implied.Selected.{Selected}
 use Rattle.paths.specs.declared.implied.Selections.{Selections}
@@ -28,73 +25,10 @@ use Rattle.paths.specs.declared.implied.Equal.{Equal}
 use Rattle.paths.specs.declared.implied.Equalities.{Equalities}
 use Rattle.paths.proofs.ImpliedLaws.{selections_by_labels, equalities_by_labels}
 use Rattle.tables.specs.Offsets.{rows_at, extent_of, rows_over}
-use Rattle.semijoin.specs.Local.{passes_by, opened_at, opened, opened_in, opening_mark}
+use Rattle.semijoin.specs.Local.{opened_at, opened, opened_in, opening_mark}
 use Rattle.tables.specs.declared.offsets.Extent.{Extent}
 use Rattle.semijoin.proofs.LocalLaws.{marks_of, opened_before}
 use Rattle.tables.proofs.RowLaws.{rows_over_lem}
-
--- ---- a row passes where it breaks none
-
-one_breaks : (b c d : Bool) → c ≡ not d → (b && c) ≡ not (not b || d)
-one_breaks true c d e = e
-one_breaks false c d e = refl
-
-all_breaks : {A : Type 0} (p : A → Bool) (l : List A) → all p l ≡ not (any (λ (x : A). not (p x)) l)
-all_breaks p [] = refl
-all_breaks {A} p (x ∷ l) = one_breaks (p x) (all p l) (any (λ (y : A). not (p y)) l) (all_breaks p l)
-
-pub unlike_by : (w v x y : ℕ) → w ≡ x → v ≡ y → not (eqb w v) ≡ not (eqb x y)
-unlike_by w v x y e f = rw (e, f)
-
-abbrev pub breaks_selection : Row → Selected → Bool
-breaks_selection row = λ (s : Selected). not (eqb (word_in row s.column) s.value)
-
-abbrev pub breaks_equal : Row → Equal → Bool
-breaks_equal row = λ (s : Equal). not (eqb (word_in row s.left) (word_in row s.right))
-
-module _ (selections : List Selected) (equalities : List Equal) (row : Row) where
-  passes_breaks : passes_by selections equalities row ≡ (not (any (breaks_selection row) selections) && not (any (breaks_equal row) equalities))
-  unfolding passes_by
-  passes_breaks =
-      rw (
-        all_breaks (λ (s : Selected). eqb (word_in row s.column) s.value) selections,
-        all_breaks (λ (s : Equal). eqb (word_in row s.left) (word_in row s.right)) equalities,
-      )
-
--- ---- the mark of a row at opening
-
-zero_selected : (h a b : Bool) → a ≡ true → ◌≡◌ {A = ℕ} 0 (pick (h && (not a && not b)) 1 0)
-zero_selected true a b t = rw t
-zero_selected false a b t = refl
-
-zero_equal : (h a b : Bool) → b ≡ true → ◌≡◌ {A = ℕ} 0 (pick (h && (not a && not b)) 1 0)
-zero_equal true true b t = refl
-zero_equal true false b t = rw t
-zero_equal false a b t = refl
-
-module _ (here : Bool) (selections : List Selected) (equalities : List Equal) (row : Row) where
-  opening_is : pick (here && (not (any (breaks_selection row) selections) && not (any (breaks_equal row) equalities))) 1 0
-      ≡ opening_mark here selections equalities row
-  unfolding opening_mark
-  opening_is = ap (λ (q : Bool). pick (here && q) 1 0) (sym (passes_breaks selections equalities row))
-
-  pub opening_elsewhere : not here ≡ true → 0 ≡ opening_mark here selections equalities row
-  opening_elsewhere t =
-      let e : here ≡ false = not-true here t in
-      rw (← opening_is, e)
-
-  module _ (a : Bool) (f : a ≡ any (breaks_selection row) selections) where
-    pub opening_unselected : a ≡ true → 0 ≡ opening_mark here selections equalities row
-    opening_unselected t = zero_selected here (any (breaks_selection row) selections) (any (breaks_equal row) equalities) (sym f ∙ t) ∙ opening_is
-
-    module _ (b : Bool) (g : b ≡ any (breaks_equal row) equalities) where
-      pub opening_unequal : b ≡ true → 0 ≡ opening_mark here selections equalities row
-      opening_unequal t = zero_equal here (any (breaks_selection row) selections) (any (breaks_equal row) equalities) (sym g ∙ t) ∙ opening_is
-
-      pub opening_passes : not here ≡ false → a ≡ false → b ≡ false → 1 ≡ opening_mark here selections equalities row
-      opening_passes t u v =
-          let e : here ≡ true = not-false here t in
-          rw (← opening_is, e, ← f, ← g, u, v)
 
 -- ---- the marks of one relation
 
@@ -103,9 +37,6 @@ pub record Opening (x : Extent) (mark : Row → ℕ) (words before : List ℕ) (
   pub same : sets marks (x.mark + i) (map mark (drop i (rows_over x words))) ≡ sets before x.mark (map mark (rows_over x words))
 
 module _ (x : Extent) (mark : Row → ℕ) (words before : List ℕ) where
-  pub opening_start : Opening x mark words before 0 before
-  opening_start = record { long = refl; same = rw (add-zero x.mark) }
-
   module _ (i : ℕ) (marks : List ℕ) (g : Opening x mark words before i marks) where
     pub opening_done : x.rows ≤ i → marks ≡ sets before x.mark (map mark (rows_over x words))
     opening_done h =
@@ -164,27 +95,29 @@ module _ (e : Envelope) (words : List ℕ) (here : ℕ → Bool) where
             ∙ ap (λ (m : Labels). equalities_by (by_labels m.of e) e i) f
             ∙ equalities_by_labels e w i
 
-        own_marks : map (opening_mark (here i) (take s.count s.all) (take q.count q.all)) (rows_over x words) ≡ marks_of e words here i
-        own_marks =
-            ap (λ (a : List Selected). map (opening_mark (here i) a (take q.count q.all)) (rows_over x words)) selections_are
-            ∙ ap (λ (b : List Equal). map (opening_mark (here i) (implied_selections e i) b) (rows_over x words)) equalities_are
-            ∙ ap (λ (y : Extent). map (opening_mark (here i) (implied_selections e i) (implied_equalities e i)) (rows_over y words)) k
-            ∙ opened_at_lem i
+        module _ (selections : List Selected) (sel : selections ≡ take s.count s.all) (equalities : List Equal)
+            (equ : equalities ≡ take q.count q.all) where
+          own_marks : map (opening_mark (here i) selections equalities) (rows_over x words) ≡ marks_of e words here i
+          own_marks =
+              ap (λ (a : List Selected). map (opening_mark (here i) a equalities) (rows_over x words)) (sel ∙ selections_are)
+              ∙ ap (λ (b : List Equal). map (opening_mark (here i) (implied_selections e i) b) (rows_over x words)) (equ ∙ equalities_are)
+              ∙ ap (λ (y : Extent). map (opening_mark (here i) (implied_selections e i) (implied_equalities e i)) (rows_over y words)) k
+              ∙ opened_at_lem i
 
-        pub opening_all_more : i < end → (after : List ℕ)
-            → after ≡ sets marks x.mark (map (opening_mark (here i) (take s.count s.all) (take q.count q.all)) (rows_over x words))
-            → OpeningAll before end (i + 1) after
-        opening_all_more h after a =
-            record {
-              within = omega arith;
-              long = ap length a ∙ length-sets marks x.mark (map (opening_mark (here i) (take s.count s.all) (take q.count q.all)) (rows_over x words)) ∙ g.long;
-              same =
-                  a
-                  ∙ ap (sets marks x.mark) own_marks
-                  ∙ ap (λ (b : List ℕ). sets b x.mark (marks_of e words here i)) g.same
-                  ∙ ap (λ (j : ℕ). sets (sets before 0 (each (marks_of e words here) (below i))) j (marks_of e words here i)) place
-                  ∙ sym (ap (sets before 0) (each_below (marks_of e words here) i) ∙ sets_append before 0 (each (marks_of e words here) (below i)) (marks_of e words here i));
-            }
-          where
-            place : x.mark ≡ 0 + length (each (marks_of e words here) (below i))
-            place = ap (λ (y : Extent). y.mark) k ∙ sym (opened_before e words here i) ∙ sym (zero-add (length (each (marks_of e words here) (below i))))
+          pub opening_all_more : i < end → (after : List ℕ)
+              → after ≡ sets marks x.mark (map (opening_mark (here i) selections equalities) (rows_over x words))
+              → OpeningAll before end (i + 1) after
+          opening_all_more h after a =
+              record {
+                within = omega arith;
+                long = ap length a ∙ length-sets marks x.mark (map (opening_mark (here i) selections equalities) (rows_over x words)) ∙ g.long;
+                same =
+                    a
+                    ∙ ap (sets marks x.mark) own_marks
+                    ∙ ap (λ (b : List ℕ). sets b x.mark (marks_of e words here i)) g.same
+                    ∙ ap (λ (j : ℕ). sets (sets before 0 (each (marks_of e words here) (below i))) j (marks_of e words here i)) place
+                    ∙ sym (ap (sets before 0) (each_below (marks_of e words here) i) ∙ sets_append before 0 (each (marks_of e words here) (below i)) (marks_of e words here i));
+              }
+            where
+              place : x.mark ≡ 0 + length (each (marks_of e words here) (below i))
+              place = ap (λ (y : Extent). y.mark) k ∙ sym (opened_before e words here i) ∙ sym (zero-add (length (each (marks_of e words here) (below i))))

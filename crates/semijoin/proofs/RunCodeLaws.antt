@@ -2,27 +2,23 @@
 use mathlib.Core.Path.{◌≡◌, refl, sym, ap, ◌∙◌}
 use mathlib.Core.Bool.{Bool, true, false}
 use mathlib.Core.List.{List}
-use Prim.Native.Nat.{ℕ, zero, suc, ◌+◌, ◌≤◌, ◌<◌, min}
+use Prim.Native.Nat.{ℕ, zero, suc, ◌+◌, ◌≤◌, ◌<◌}
 use native.Mathlib.Nat.{min-le_left}
 use native.Mathlib.Numerals.{add-one}
 use native.Mathlib.Omega.{arith}
-use lib.ListN.{length, get_or, take, drop, replicate, length-take, length-replicate, drop_of_length-le}
-use lib.Seq.{sets, drop-cons, get_or-take}
+use lib.ListN.{length, get_or, take, drop, replicate, length-replicate, drop_of_length-le}
+use lib.Seq.{sets, drop-cons}
 use Rattle.ground.specs.Lists.{Every, below}
 use Rattle.ground.specs.Rising.{Rises}
-use Rattle.ground.specs.Outcome.{verdict_of, next_of, value_of, leaves}
+use Rattle.ground.specs.Outcome.{Verdict, taken_of, verdict_of, value_of, leaves}
 use Rattle.ground.specs.Outcome.Outcome.{good}
 use Rattle.ground.specs.Refusing.{judgement}
-use Rattle.ground.specs.declared.Verdict.{Verdict}
-use Rattle.ground.specs.declared.Verdict.TheVariants.{Taken, Refused}
 use Rattle.ground.proofs.ListLaws.{each_alike}
-use Rattle.ground.proofs.OutcomeLaws.{never}
+use Rattle.ground.proofs.OutcomeLaws.{never, value_good, value_bad}
 use Rattle.ground.proofs.EveryLaws.{every_get_d}
 use Rattle.ground.proofs.NumbersLaws.{below_from}
 use Rattle.ground.proofs.RefusingLaws.{judge_refused, judge_taken}
 use Rattle.fields.specs.Puts.{written_of, written_in}
-use Rattle.fields.specs.declared.puts.Written.{Written}
-use Rattle.fields.specs.declared.puts.Written.TheVariants as w
 use Rattle.fields.proofs.PutLaws.{writes_good, fresh_bytes}
 use Rattle.contents.specs.Parts.{relation_count}
 use Rattle.envelopes.specs.Rules.{Within}
@@ -30,12 +26,12 @@ use Rattle.entries.specs.declared.places.Place.{Place}
 use Rattle.contents.specs.declared.envelope.Envelope.{Envelope}
 use Rattle.paths.specs.Steps.{is_place, legal, LegalStep}
 use Rattle.papers.specs.Programs.{no_step, steps_of}
-use Rattle.papers.specs.Checks.{papers_of, shown_papers, GoodPapers}
+use Rattle.papers.specs.Checks.{papers_of, GoodPapers}
 use Rattle.paths.specs.declared.steps.Step.{Step}
 use Rattle.papers.specs.declared.programs.Program.{Program}
-use Rattle.papers.specs.declared.checks.PapersRead.{PapersRead}
+use Rattle.papers.specs.declared.checks.Papers.{Papers}
 use Rattle.paths.proofs.StepLaws.{legal_step}
-use Rattle.papers.proofs.CheckLaws.{papers_taken, papers_refused, papers_sound}
+use Rattle.papers.proofs.CheckLaws.{papers_sound}
 use Rattle.tables.specs.Shape.{shaped, marks_tests}
 use Rattle.semijoin.specs.Local.{opened_at, opened, opened_in}
 use Rattle.semijoin.specs.Marks.{reduced_by}
@@ -47,11 +43,13 @@ use Rattle.tables.proofs.ValueLaws.{values_rise, no_more_values}
 use Rattle.tables.proofs.CallLaws.{values_taken_lem}
 use Rattle.semijoin.proofs.PromiseLaws.{promise}
 use Rattle.semijoin.proofs.CallCodeLaws.{after_refused, after_taken}
+use Rattle.ground.specs.declared.refusals.Refusal.{Refusal}
+use Rattle.std.specs.Prelude.{Result, Ok, Err}
 
 -- ---- a step, by a column's rising values: a buffer of 4,096 takes them all, so that gathering them is not refused
 
 module _ (e : Envelope) (words marks : List ℕ) (right : Place) (size : ℕ) (h : 4096 ≤ size) (t : shaped e words ≡ true)
-    (room : row_count e words ≤ length marks) (gathered : Written)
+    (room : row_count e words ≤ length marks) (gathered : Result ℕ Refusal)
     (f : gathered ≡ written_of (values_outcome e words marks right 0 (length {A = ℕ} (replicate size 0)))) (p : is_place e right ≡ true) where
   abbrev rising : List ℕ
   rising = rising_values e words marks right
@@ -68,18 +66,18 @@ module _ (e : Envelope) (words marks : List ℕ) (right : Place) (size : ℕ) (h
       let long : length fresh ≡ size = length-replicate size zero in
       omega (arith, few)
 
-  writes : (w.Length (length rising) ≡ written_of (values_outcome e words marks right 0 (length fresh)))
+  writes : (Ok (length rising) ≡ written_of (values_outcome e words marks right 0 (length fresh)))
       × (sets fresh 0 rising ≡ written_in fresh (values_outcome e words marks right 0 (length fresh)))
   writes = writes_good 0 fresh _ rising 0 (length rising) _ (values_taken_lem e right words marks 0 (length fresh) t room p fits) refl refl
 
-  is_length : gathered ≡ w.Length (length rising)
+  is_length : gathered ≡ Ok (length rising)
   is_length = f ∙ sym writes.0
 
-  pub step_refused : (m q : ℕ) → gathered ≡ w.Refused m q → ⊥
-  step_refused m q k = let z : ◌≡◌ {A = ℕ} 0 1 = cc is_length in never z
+  pub step_refused : (x : Refusal) → gathered ≡ Err x → ⊥
+  step_refused x k = let z : ◌≡◌ {A = ℕ} 0 1 = cc is_length in never z
 
   module _ (values : List ℕ) (b : values ≡ written_in (replicate size 0) (values_outcome e words marks right 0 (length {A = ℕ} (replicate size 0))))
-      (n : ℕ) (k : gathered ≡ w.Length n) where
+      (n : ℕ) (k : gathered ≡ Ok n) where
     count : n ≡ length rising
     count = cc is_length
 
@@ -107,10 +105,14 @@ module _ (e : Envelope) (words marks : List ℕ) (right : Place) (size : ℕ) (h
         ∙ (promise e).either_list words marks words marks s.left right
         ∙ ap (λ (b : Place). reduced_by e words (values_of e words marks b) s.left marks) same
 
-pub legal_used : (e : Envelope) (p : Program) → Every (λ (s : Step). legal e s ≡ true) (steps_of p)
-    → Every (λ (s : Step). legal e s ≡ true) (take p.count p.steps)
-unfolding steps_of
-legal_used e p h = h
+-- the steps in use of a program
+module _ (e : Envelope) (p : Program) (steps : List Step) (k : steps ≡ take p.count p.steps) where
+  pub used_steps : steps ≡ steps_of p
+  unfolding steps_of
+  used_steps = k
+
+  pub legal_used : Every (λ (s : Step). legal e s ≡ true) (steps_of p) → Every (λ (s : Step). legal e s ≡ true) steps
+  legal_used h = rw used_steps h
 
 stepped_long : (e : Envelope) (words : List ℕ) (s : Step) (marks : List ℕ) → length (stepped e words s marks) ≡ length marks
 unfolding stepped
@@ -122,41 +124,25 @@ pub record Taking (e : Envelope) (words : List ℕ) (steps : List Step) (before 
   pub long : length marks ≡ length before
   pub same : stepped_all e words (drop i steps) marks ≡ stepped_all e words steps before
 
-module _ (e : Envelope) (words : List ℕ) (l : List Step) (n : ℕ) (before : List ℕ) where
-  pub taking_start : Taking e words (take n l) before 0 before
-  taking_start = record { long = refl; same = refl }
+module _ (e : Envelope) (words : List ℕ) (steps : List Step) (before : List ℕ) where
+  module _ (i : ℕ) (marks : List ℕ) (g : Taking e words steps before i marks) where
+    pub taking_done : length steps ≤ i → marks ≡ stepped_all e words steps before
+    unfolding stepped_all
+    taking_done h = sym (ap (λ (t : List Step). stepped_all e words t marks) (drop_of_length-le steps h)) ∙ g.same
 
-  module _ (size : length l ≡ 156) where
-    used : length (take n l) ≡ min 156 n
-    used = length-take n l ∙ rw size (omega arith)
+    module _ (h : i < length steps) where
+      pub taking_legal : Every (λ (s : Step). legal e s ≡ true) steps → LegalStep e (get_or steps i no_step)
+      taking_legal all = legal_step e (get_or steps i no_step) (every_get_d (λ (s : Step). legal e s ≡ true) steps i no_step h all)
 
-    module _ (i : ℕ) (marks : List ℕ) (g : Taking e words (take n l) before i marks) where
-      pub taking_done : min 156 n ≤ i → marks ≡ stepped_all e words (take n l) before
+      pub taking_more : (after : List ℕ) → after ≡ stepped e words (get_or steps i no_step) marks → Taking e words steps before (i + 1) after
       unfolding stepped_all
-      taking_done h =
-          let k : length (take n l) ≤ i = omega (arith, used) in
-          sym (ap (λ (t : List Step). stepped_all e words t marks) (drop_of_length-le (take n l) k)) ∙ g.same
-
-      module _ (h : i < min 156 n) where
-        is_step : get_or (take n l) i no_step ≡ get_or l i no_step
-        is_step = get_or-take n l i no_step (omega arith)
-
-        pub taking_legal : Every (λ (s : Step). legal e s ≡ true) (take n l) → LegalStep e (get_or l i no_step)
-        taking_legal all =
-            let k : i < length (take n l) = omega (arith, used) in
-            legal_step e (get_or l i no_step)
-            (rw is_step at (every_get_d (λ (s : Step). legal e s ≡ true) (take n l) i no_step k all))
-
-        pub taking_more : (after : List ℕ) → after ≡ stepped e words (get_or l i no_step) marks → Taking e words (take n l) before (i + 1) after
-        unfolding stepped_all
-        taking_more after a =
-            let k : i < length (take n l) = omega (arith, used) in
-            record {
-              long = ap length a ∙ stepped_long e words (get_or l i no_step) marks ∙ g.long;
-              same =
-                  rw (add-one i, a, ← is_step)
-                  (sym (ap (λ (t : List Step). stepped_all e words t marks) (drop-cons (take n l) i no_step k)) ∙ g.same);
-            }
+      taking_more after a =
+          record {
+            long = ap length a ∙ stepped_long e words (get_or steps i no_step) marks ∙ g.long;
+            same =
+                rw (add-one i, a)
+                (sym (ap (λ (t : List Step). stepped_all e words t marks) (drop-cons steps i no_step h)) ∙ g.same);
+          }
 
 -- ---- the run of a good program on a good envelope
 
@@ -182,47 +168,45 @@ module _ (e : Envelope) (p : Program) (words marks : List ℕ) where
       is_true (suc (suc (suc (suc (suc (suc (suc (suc r)))))))) h = absurd (omega arith)
 
   module _ (v : Verdict) (g : v ≡ judgement (marks_tests e words (length marks))) where
-    pub run_refused : (m q : ℕ) → v ≡ Refused m q → Ran (Refused m q) marks
+    pub run_refused : (x : Refusal) → v ≡ Err x → Ran (Err x) marks
     unfolding run_checked
-    run_refused m q h =
-        after_refused marks (run_checked e p words marks) m q
-        (judge_refused (marks_tests e words (length marks)) v g (good (run_marks e p words marks) 0) m q h)
+    run_refused x h =
+        after_refused marks (run_checked e p words marks) x
+        (judge_refused (marks_tests e words (length marks)) v g (good (run_marks e p words marks) 0) x.reason x.position h)
 
-    pub run_whole : v ≡ Taken → (between after : List ℕ) → between ≡ opened_in e words (λ r. get_or (replicate 8 true) r false) marks
-        → after ≡ stepped_all e words (take p.count p.steps) between → Ran Taken after
-    unfolding run_checked run_marks steps_of
-    run_whole h between after k a =
+    pub run_whole : v ≡ Ok (tt {0}) → (between after : List ℕ) → between ≡ opened_in e words (λ r. get_or (replicate 8 true) r false) marks
+        → (steps : List Step) → steps ≡ take p.count p.steps → after ≡ stepped_all e words steps between → Ran (Ok (tt {0})) after
+    unfolding run_checked run_marks
+    run_whole h between after k steps used a =
         after_taken marks (run_checked e p words marks) after 0
         (judge_taken (marks_tests e words (length marks)) v g (good (run_marks e p words marks) 0) h
-        ∙ ap (λ (l : List ℕ). good l 0) (sym (a ∙ ap (stepped_all e words (take p.count p.steps)) (k ∙ everywhere))))
+        ∙ ap (λ (l : List ℕ). good l 0)
+        (sym (a ∙ ap (λ (l : List Step). stepped_all e words l between) (used_steps e p steps used) ∙ ap (stepped_all e words (steps_of p)) (k ∙ everywhere))))
 
 -- ---- the whole run
 
-module _ (e : Envelope) (p : Program) (words marks : List ℕ) (x : PapersRead) (g : x ≡ shown_papers (papers_of e p)) where
+module _ (e : Envelope) (p : Program) (words marks : List ℕ) (r : Result Papers Refusal) (g : r ≡ taken_of (papers_of e p)) where
   abbrev RanWhole : Verdict → List ℕ → Type 0
   RanWhole v after = (v ≡ verdict_of (run_outcome e p words marks)) × (after ≡ value_of marks (run_outcome e p words marks))
 
-  pub run_papers : (m q : ℕ) → x.verdict ≡ Refused m q → RanWhole (Refused m q) marks
+  pub run_papers : (x : Refusal) → r ≡ Err x → RanWhole (Err x) marks
   unfolding run_outcome verdict_of leaves
-  run_papers m q h = rw (papers_refused (papers_of e p) x m q g h) (refl, refl)
+  run_papers x h = rw (value_bad (papers_of e p) r x g h) (refl, refl)
 
-  module _ (h : x.verdict ≡ Taken) where
-    taken : papers_of e p ≡ good x.papers (next_of (papers_of e p))
-    taken = papers_taken (papers_of e p) x g h
+  module _ (q : Papers) (h : r ≡ Ok q) where
+    sound : GoodPapers q
+    sound = let (u, taken) = value_good (papers_of e p) r q g h in papers_sound e p q u taken
 
-    sound : GoodPapers x.papers
-    sound = papers_sound e p x.papers (next_of (papers_of e p)) taken
-
-    pub run_within : Within x.papers.envelope
+    pub run_within : Within q.envelope
     run_within = sound.within
 
-    pub run_legal : Every (λ (s : Step). legal x.papers.envelope s ≡ true) (steps_of x.papers.program)
+    pub run_legal : Every (λ (s : Step). legal q.envelope s ≡ true) (steps_of q.program)
     run_legal = sound.acceptable.steps
 
-    as_run : run_outcome e p words marks ≡ run_checked x.papers.envelope x.papers.program words marks
+    as_run : run_outcome e p words marks ≡ run_checked q.envelope q.program words marks
     unfolding run_outcome
-    as_run = rw taken
+    as_run = rw (value_good (papers_of e p) r q g h).1
 
-    pub run_good : (r : Verdict) (after : List ℕ) → r ≡ verdict_of (run_checked x.papers.envelope x.papers.program words marks)
-        → after ≡ value_of marks (run_checked x.papers.envelope x.papers.program words marks) → RanWhole r after
-    run_good r after a b = rw as_run (a, b)
+    pub run_good : (v : Verdict) (after : List ℕ) → v ≡ verdict_of (run_checked q.envelope q.program words marks)
+        → after ≡ value_of marks (run_checked q.envelope q.program words marks) → RanWhole v after
+    run_good v after a b = rw as_run (a, b)

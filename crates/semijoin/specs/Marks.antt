@@ -1,12 +1,12 @@
 -- "The step keeps exactly the rows of R whose A occurs in column B of the kept rows of S." "Stores 0 at each row removed."
 -- "Receiving: 10, 11 (marks), .. 15": values that do not rise.
-use Rattle.std.specs.Prelude.{ℕ, ◌+◌, not, List, [], ◌∷◌, ◌++◌, length}
+use Rattle.std.specs.Prelude.{Result, Ok, Err, ℕ, ◌+◌, not, List, [], ◌∷◌, ◌++◌, length}
 use Rattle.std.proofs.lemmas.List.Edits.{sets}
 use Rattle.ground.specs.Tests.{pick}
 use Rattle.ground.specs.Outcome.{Outcome}
 use Rattle.ground.specs.Outcome.Outcome.{good, bad}
 use Rattle.ground.specs.Refusing.{test, judged}
-use Rattle.fields.specs.Refusals.{not_sound}
+use Rattle.ground.specs.declared.refusals.Reason.TheVariants.{NotSound}
 use Rattle.entries.specs.declared.places.Place.{Place}
 use Rattle.contents.specs.declared.envelope.Envelope.{Envelope}
 use Rattle.paths.specs.Meaning.{Table, word_in}
@@ -15,8 +15,8 @@ use Rattle.tables.specs.Shape.{column_tests}
 use Rattle.tables.specs.Rows.{is_kept}
 use Rattle.tables.specs.Rising.{among, is_rising}
 use Rattle.tables.specs.declared.offsets.Extent.{Extent}
-use Rattle.semijoin.specs.declared.marks.Reduced.{Reduced}
-use Rattle.semijoin.specs.declared.marks.Reduced.TheVariants.{Removed, Refused}
+use Rattle.ground.specs.Refusals.{refusal}
+use Rattle.ground.specs.declared.refusals.Refusal.{Refusal}
 
 -- ---- one relation reduced by some values in a column
 
@@ -50,10 +50,10 @@ removed_by e words values a marks = removed_over (extent_of e words a.relation) 
 unfoldable pub reduce_outcome : Envelope → List ℕ → List ℕ → Place → List ℕ → Outcome (List ℕ)
 reduce_outcome e words values a marks =
     judged
-    (column_tests e a words (length marks) ++ test (not (is_rising values)) not_sound 0 ∷ [])
+    (column_tests e a words (length marks) ++ test (not (is_rising values)) NotSound 0 ∷ [])
     (good (reduced_by e words values a marks) 0)
 
 -- the answer, for so many rows removed
-unfoldable pub reduced_of : ℕ → Outcome (List ℕ) → Reduced
-reduced_of n (good after p) = Removed n
-reduced_of n (bad m p) = Refused m p
+unfoldable pub reduced_of : ℕ → Outcome (List ℕ) → Result ℕ Refusal
+reduced_of n (good after p) = Ok n
+reduced_of n (bad m p) = Err (refusal m p)

@@ -1,5 +1,5 @@
 // The one-place run: every check first, then local operations on all relations, then every step.
-ghost use Rattle.std.specs.Prelude.{◌≡◌, true, ◌≤◌, length, take};
+ghost use Rattle.std.specs.Prelude.{◌≡◌, true, ◌≤◌, length};
 ghost use Rattle.ground.specs.Lists.{Every};
 ghost use Rattle.ground.specs.Outcome.{verdict_of, value_of};
 ghost use Rattle.envelopes.specs.Rules.{Within};
@@ -10,8 +10,7 @@ ghost use Rattle.tables.specs.Shape.{shaped};
 ghost use Rattle.semijoin.specs.Run.{stepped, stepped_all, run_outcome, run_checked};
 
 use contents::envelope::Envelope;
-use fields::puts::Written;
-use ground::Verdict;
+use ground::refusals::Refusal;
 use papers::programs::Program;
 use paths::steps::Step;
 
@@ -20,46 +19,37 @@ fn take_step(envelope: Envelope, step: Step, tables: &[u32], marks: &mut [u8])
     requires { (shaped envelope tables.now ≡ true) × (row_count envelope tables.now ≤ length marks.old) × (is_place envelope step.left ≡ true) × (is_place envelope step.right ≡ true) }
     ensures { marks.new ≡ stepped envelope tables.now step marks.old }
 {
-    let left = step.left;
-    let right = step.right;
     let mut values = [0u32; 4096];
-    let gathered = tables::values::values_into(envelope, right, tables, marks, 0, &mut values);
-    match gathered {
-        Written::Refused { number, position } => {}
-        Written::Length(n) => {
-            crate::marks::reduce(envelope, left, tables, &values[..n], marks);
-        }
+    let gathered = tables::values::values_into(envelope, step.right, tables, marks, 0, &mut values);
+    if let Ok(n) = gathered {
+        crate::marks::reduce(envelope, step.left, tables, &values[..n], marks);
     }
 }
 
-fn take_steps(envelope: Envelope, steps: [Step; 156], n: u8, tables: &[u32], marks: &mut [u8])
-    requires { (shaped envelope tables.now ≡ true) × (row_count envelope tables.now ≤ length marks.old) × Every (λ (s : Step). legal envelope s ≡ true) (take n steps) }
-    ensures { marks.new ≡ stepped_all envelope tables.now (take n steps) marks.old }
+fn take_steps(envelope: Envelope, steps: &[Step], tables: &[u32], marks: &mut [u8])
+    requires { (shaped envelope tables.now ≡ true) × (row_count envelope tables.now ≤ length marks.old) × Every (λ (s : Step). legal envelope s ≡ true) steps.now }
+    ensures { marks.new ≡ stepped_all envelope tables.now steps.now marks.old }
 {
-    let end = ground::used::in_use(156, n);
-    let mut i: usize = 0;
-    while i < end {
-        let step = steps[i];
-        take_step(envelope, step, tables, marks);
-        i += 1;
+    for step in steps {
+        take_step(envelope, *step, tables, marks);
     }
 }
 
 // The run of a program on an envelope, both found good: 10, 11.
-fn run_checked(envelope: Envelope, program: Program, tables: &[u32], marks: &mut [u8]) -> Verdict
+fn run_checked(
+    envelope: Envelope,
+    program: Program,
+    tables: &[u32],
+    marks: &mut [u8],
+) -> Result<(), Refusal>
     requires { Within envelope × Every (λ (s : Step). legal envelope s ≡ true) (steps_of program) }
     ensures { (result ≡ verdict_of (run_checked envelope program tables.now marks.old)) × (marks.new ≡ value_of marks.old (run_checked envelope program tables.now marks.old)) }
 {
-    let verdict = tables::shape::judge_marks(envelope, tables, marks.len());
-    match verdict {
-        Verdict::Refused { number, position } => Verdict::Refused { number, position },
-        Verdict::Taken => {
-            crate::local::open_all(envelope, tables, [true; 8], marks);
-            let steps = program.steps;
-            take_steps(envelope, steps, program.count, tables, marks);
-            Verdict::Taken
-        }
-    }
+    tables::shape::judge_marks(envelope, tables, marks.len())?;
+    crate::local::open_all(envelope, tables, [true; 8], marks);
+    let steps = ground::used::first(&program.steps, program.count);
+    take_steps(envelope, steps, tables, marks);
+    Ok(())
 }
 
 // The run, whatever comes in: the envelope, the program, then 10, 11.
@@ -68,18 +58,9 @@ pub fn run_in_one_place(
     program: Program,
     tables: &[u32],
     marks: &mut [u8],
-) -> Verdict
+) -> Result<(), Refusal>
     ensures { (result ≡ verdict_of (run_outcome envelope program tables.now marks.old)) × (marks.new ≡ value_of marks.old (run_outcome envelope program tables.now marks.old)) }
 {
-    let read = papers::checks::check_papers(envelope, program);
-    let verdict = read.verdict;
-    match verdict {
-        Verdict::Refused { number, position } => Verdict::Refused { number, position },
-        Verdict::Taken => {
-            let checked = read.papers;
-            let envelope = checked.envelope;
-            let program = checked.program;
-            run_checked(envelope, program, tables, marks)
-        }
-    }
+    let papers = papers::checks::check_papers(envelope, program)?;
+    run_checked(papers.envelope, papers.program, tables, marks)
 }

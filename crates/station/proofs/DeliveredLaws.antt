@@ -14,7 +14,7 @@ use Rattle.ground.specs.Outcome.Outcome.{good, bad}
 use Rattle.ground.specs.Refusing.{Test, test}
 use Rattle.ground.proofs.OutcomeLaws.{turned_bad}
 use Rattle.ground.proofs.RefusingLaws.{judged_insert, refusal_listed}
-use Rattle.fields.specs.Refusals.{too_short, not_ours, not_sound, already_taken, step_missing}
+use Rattle.ground.specs.declared.refusals.Reason.TheVariants.{TooShort, NotOurs, NotSound, AlreadyTaken, StepMissing}
 use Rattle.contents.specs.Parts.{relation_count}
 use Rattle.contents.specs.Sites.{is_at}
 use Rattle.contents.specs.Kept.{kept_columns}
@@ -35,6 +35,7 @@ use Rattle.ends.proofs.MessageLaws.{about_step, about_rows, value_run, value_sec
 use Rattle.station.proofs.MadeLaws.{values_sound, rows_counted}
 use Rattle.station.proofs.MakingLaws.{ValuesMade, RowsMade}
 use Rattle.station.proofs.ReceivingLaws.{step_effect, step_judged, rows_effect, rows_judged}
+use Rattle.ground.specs.declared.refusals.Reason.{Reason}
 
 module _ (q : Papers) (y : End) (others those store m : List ℕ) where
   -- a message of this run, by what it speaks of
@@ -79,28 +80,28 @@ module _ (q : Papers) (good_papers : GoodPapers q) (x : End) (words marks : List
     sound = rw made.is (values_sound q.envelope words marks shape x.run n (step_of q.program n).right)
 
     abbrev ours : Test
-    ours = test (not (is_at q.envelope y.site (step_of q.program n).left.relation)) not_ours 0
+    ours = test (not (is_at q.envelope y.site (step_of q.program n).left.relation)) NotOurs 0
 
     abbrev again : Test
     again =
         test
         (ltb (steps_before q.program (step_of q.program n).left.relation n) (applied_of y (step_of q.program n).left.relation))
-        already_taken 0
+        AlreadyTaken 0
 
     abbrev early : Test
     early =
         test
         (ltb (applied_of y (step_of q.program n).left.relation) (steps_before q.program (step_of q.program n).left.relation n))
-        step_missing 0
+        StepMissing 0
 
-    pub values_delivered : (k u : ℕ) → receive_with q y others those store m ≡ bad k u
-        → Memᴰ k (not_ours ∷ already_taken ∷ step_missing ∷ []) × (u ≡ 0)
+    pub values_delivered : (k : Reason) (u : ℕ) → receive_with q y others those store m ≡ bad k u
+        → Memᴰ k (NotOurs ∷ AlreadyTaken ∷ StepMissing ∷ []) × (u ≡ 0)
     unfolding taken
     values_delivered k u h =
         let refused : values_taken q y others those m n ≡ bad k u = turned_bad _ (values_taken q y others those m n) k u (sym step_spoken ∙ h) in
         let effect = good (step_effect q y others those m n) 0 in
         refusal_listed (ours ∷ again ∷ early ∷ []) (step_effect q y others those m n) 0 k u (refl, (refl, (refl, tt)))
-        (sym (judged_insert (ours ∷ []) (again ∷ early ∷ []) (test (not (sound_values m)) not_sound 0) effect (ap not sound))
+        (sym (judged_insert (ours ∷ []) (again ∷ early ∷ []) (test (not (sound_values m)) NotSound 0) effect (ap not sound))
         ∙ sym (step_judged q y others those m n)
         ∙ refused)
 
@@ -139,16 +140,16 @@ module _ (q : Papers) (good_papers : GoodPapers q) (x : End) (words marks : List
     whole = rw made.is (rows_counted q.envelope words marks words shape r refl x.run)
 
     abbrev assembles : Test
-    assembles = test (not (eqb y.site q.program.site)) not_ours 0
+    assembles = test (not (eqb y.site q.program.site)) NotOurs 0
 
     abbrev arrived : Test
-    arrived = test (has_arrived y r) already_taken 0
+    arrived = test (has_arrived y r) AlreadyTaken 0
 
     abbrev full : Test
-    full = test (ltb (length store) (y.used + length m)) too_short 0
+    full = test (ltb (length store) (y.used + length m)) TooShort 0
 
-    pub rows_delivered : (k u : ℕ) → receive_with q y others those store m ≡ bad k u
-        → Memᴰ k (not_ours ∷ already_taken ∷ too_short ∷ []) × (u ≡ 0)
+    pub rows_delivered : (k : Reason) (u : ℕ) → receive_with q y others those store m ≡ bad k u
+        → Memᴰ k (NotOurs ∷ AlreadyTaken ∷ TooShort ∷ []) × (u ≡ 0)
     unfolding taken
     rows_delivered k u h =
         let refused : rows_taken q y store m r ≡ bad k u =
@@ -156,7 +157,7 @@ module _ (q : Papers) (good_papers : GoodPapers q) (x : End) (words marks : List
         let effect = good (rows_effect q y store m r) 0 in
         refusal_listed (assembles ∷ arrived ∷ full ∷ []) (rows_effect q y store m r) 0 k u (refl, (refl, (refl, tt)))
         (sym
-        (judged_insert (assembles ∷ []) (arrived ∷ full ∷ []) (test (not (counted (length (kept_columns q.envelope r)) m)) not_sound 0) effect
+        (judged_insert (assembles ∷ []) (arrived ∷ full ∷ []) (test (not (counted (length (kept_columns q.envelope r)) m)) NotSound 0) effect
         (ap not whole))
         ∙ sym (rows_judged q y store m r)
         ∙ refused)

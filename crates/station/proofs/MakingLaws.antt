@@ -15,7 +15,7 @@ use Rattle.ground.specs.Refusing.{judged}
 use Rattle.ground.proofs.OutcomeLaws.{next_good}
 use Rattle.ground.proofs.RefusingLaws.{judged_good, judged_number, each_passes}
 use Rattle.ground.proofs.TestLaws.{and_left, and_right, and_both}
-use Rattle.fields.specs.Refusals.{too_short, waiting, not_ours}
+use Rattle.ground.specs.declared.refusals.Reason.TheVariants.{TooShort, Waiting, NotOurs}
 use Rattle.fields.specs.Puts.{fitted}
 use Rattle.fields.proofs.PutLaws.{fitted_good, fitted_bad}
 use Rattle.contents.specs.Sites.{is_at}
@@ -31,6 +31,7 @@ use Rattle.station.specs.Making.{send_tests, values_with, make_values_of, sent_r
 use Rattle.ends.specs.declared.ends.End.{End}
 use Rattle.ends.proofs.EndLaws.{usable_is}
 use Rattle.ends.proofs.SoundLaws.{ToldFirst, call_number, sound_call}
+use Rattle.ground.specs.declared.refusals.Reason.{Reason}
 
 -- ---- 14, 12, 11, of any message
 
@@ -52,11 +53,11 @@ module _ (p : Program) (applied : List ℕ) (ours : Bool) (r n room : ℕ) (w : 
   unfolding fitted is_missing
   sent_goes here ready fits = rw (here, le-ltb (get_or applied r 0) (steps_before p r n) ready, le-ltb room (length w) fits)
 
-  sent_number : (k u : ℕ) → sending ≡ bad k u → Memᴰ k (not_ours ∷ waiting ∷ too_short ∷ [])
+  sent_number : (k : Reason) (u : ℕ) → sending ≡ bad k u → Memᴰ k (NotOurs ∷ Waiting ∷ TooShort ∷ [])
   sent_number k u h = go (judged_number (send_tests p applied ours r n) (fitted room w) k u h)
     where
-      go : Memᴰ k (not_ours ∷ waiting ∷ []) ⊎ (fitted room w ≡ bad k u) → Memᴰ k (not_ours ∷ waiting ∷ too_short ∷ [])
-      go (inl m) = Memᴰ.append_left (too_short ∷ []) m
+      go : Memᴰ k (NotOurs ∷ Waiting ∷ []) ⊎ (fitted room w ≡ bad k u) → Memᴰ k (NotOurs ∷ Waiting ∷ TooShort ∷ [])
+      go (inl m) = Memᴰ.append_left (TooShort ∷ []) m
       go (inr e) = Memᴰ.tail (Memᴰ.tail (fitted_bad room w k u e).0)
 
 -- ---- a value message
@@ -96,8 +97,8 @@ module _ (x : End) (words marks : List ℕ) (n room : ℕ) where
       (q, usable_is x words (length marks) q at fine, made, fits, long)
 
   -- refused: as every call on an end, or by 14, 12, 11
-  pub values_number : (k u : ℕ) → make_values_of x words marks n room ≡ bad k u
-      → ToldFirst x words (length marks) k u ⊎ Memᴰ k (not_ours ∷ waiting ∷ too_short ∷ [])
+  pub values_number : (k : Reason) (u : ℕ) → make_values_of x words marks n room ≡ bad k u
+      → ToldFirst x words (length marks) k u ⊎ Memᴰ k (NotOurs ∷ Waiting ∷ TooShort ∷ [])
   unfolding make_values_of values_with
   values_number k u =
       call_number x words (length marks) k u (λ q. values_with q x words marks n room) λ q.
@@ -137,8 +138,8 @@ module _ (x : End) (words marks : List ℕ) (r room : ℕ) where
       let (made, fits, long) = with_rows q m u rest in
       (q, usable_is x words (length marks) q at fine, made, fits, long)
 
-  pub rows_number : (k u : ℕ) → make_rows_of x words marks r room ≡ bad k u
-      → ToldFirst x words (length marks) k u ⊎ Memᴰ k (not_ours ∷ waiting ∷ too_short ∷ [])
+  pub rows_number : (k : Reason) (u : ℕ) → make_rows_of x words marks r room ≡ bad k u
+      → ToldFirst x words (length marks) k u ⊎ Memᴰ k (NotOurs ∷ Waiting ∷ TooShort ∷ [])
   unfolding make_rows_of rows_with
   rows_number k u =
       call_number x words (length marks) k u (λ q. rows_with q x words marks r room) λ q.

@@ -11,13 +11,13 @@ use native.Mathlib.Decide.{ℕ_discrete}
 use borrow.Author.Tests.{lt-ltb, le-ltb, eq-eqb, ne_eqb, eqb-true, eqb-false, not-true, not-false}
 use Rattle.ground.specs.Tests.{pick}
 use Rattle.ground.proofs.CountLaws.{split}
-use Rattle.fields.specs.Refusals.{not_sound, already_taken, step_missing}
+use Rattle.ground.specs.declared.refusals.Reason.TheVariants.{NotSound, AlreadyTaken, StepMissing}
 use Rattle.paths.specs.declared.steps.Step.{Step}
 use Rattle.papers.specs.declared.programs.Program.{Program}
 use Rattle.tables.specs.Rising.{is_rising}
 use Rattle.ends.specs.Reducing.{step_count, step_of, steps_before, missing_of}
-use Rattle.ends.specs.declared.reducing.Missing.{Missing}
-use Rattle.ends.specs.declared.reducing.Missing.TheVariants.{First, None}
+use Rattle.std.specs.Prelude.{Option, Some, None}
+use Rattle.ground.specs.declared.refusals.Reason.{Reason}
 use Rattle.station.specs.Receiving.{is_next, not_next}
 use Rattle.ends.proofs.ReducingLaws.{next_itself, next_earlier, next_none}
 
@@ -25,35 +25,26 @@ use Rattle.ends.proofs.ReducingLaws.{next_itself, next_earlier, next_none}
 pub body_part : (m : List ℕ) → take (length m - 3) (drop 3 m) ≡ drop 3 m
 body_part m = take_all (length m - 3) (drop 3 m) (omega (arith, length-drop 3 m))
 
-module _ (missing : Missing) where
-  pub is_next_of : (first n : ℕ) → missing ≡ First first → eqb first n ≡ is_next missing n
-  unfolding is_next
-  is_next_of first n e = rw e
-
-  pub is_next_none : (n : ℕ) → missing ≡ None → false ≡ is_next missing n
-  unfolding is_next
-  is_next_none n e = rw e
-
-module _ (m by : List ℕ) (p : by ≡ drop 3 m) (missing : Missing) (b : Bool) (g : b ≡ is_rising by) where
-  abbrev why : ℕ
-  why = pick (not (is_rising (drop 3 m))) not_sound (not_next missing)
+module _ (m by : List ℕ) (p : by ≡ drop 3 m) (missing : Option ℕ) (b : Bool) (g : b ≡ is_rising by) where
+  abbrev why : Reason
+  why = pick (not (is_rising (drop 3 m))) NotSound (not_next missing)
 
   f : b ≡ is_rising (drop 3 m)
   f = g ∙ ap is_rising p
 
-  pub next_falls : not b ≡ true → not_sound ≡ why
+  pub next_falls : not b ≡ true → NotSound ≡ why
   next_falls t = rw (← f, t)
 
-  pub next_early : not b ≡ false → (first : ℕ) → missing ≡ First first → step_missing ≡ why
+  pub next_early : not b ≡ false → (first : ℕ) → missing ≡ Some first → StepMissing ≡ why
   unfolding not_next
   next_early t first e = rw (← f, t, e)
 
-  pub next_late : not b ≡ false → missing ≡ None → already_taken ≡ why
+  pub next_late : not b ≡ false → missing ≡ None → AlreadyTaken ≡ why
   unfolding not_next
   next_late t e = rw (← f, t, e)
 
 -- which step of its relation is missing says where a step stands: as many before it as are applied, fewer or more
-module _ (p : Program) (n : ℕ) (inside : n < step_count p) (s : Step) (e : s ≡ step_of p n) (done : ℕ) (missing : Missing)
+module _ (p : Program) (n : ℕ) (inside : n < step_count p) (s : Step) (e : s ≡ step_of p n) (done : ℕ) (missing : Option ℕ)
     (i : missing ≡ missing_of p s.left.relation done (n + 1)) where
   abbrev before : ℕ
   before = steps_before p s.left.relation n
@@ -61,14 +52,13 @@ module _ (p : Program) (n : ℕ) (inside : n < step_count p) (s : Step) (e : s �
   own : (step_of p n).left.relation ≡ s.left.relation
   own = ap (λ (y : Step). y.left.relation) (sym e)
 
-  earlier : done < before → (k : ℕ) × (k < n) × (missing ≡ First k)
+  earlier : done < before → (k : ℕ) × (k < n) × (missing ≡ Some k)
   earlier h = let (k, l, is) = next_earlier p s.left.relation n inside own done h in (k, l, i ∙ is)
 
   none : before < done → missing ≡ None
   none h = i ∙ next_none p s.left.relation n inside own done h
 
   is_next_same : is_next missing n ≡ eqb before done
-  unfolding is_next
   is_next_same = split done before (by_before (ℕ_discrete before done)) (λ h. rw (none h, ne_eqb before done (omega (arith, h))))
     where
       by_before : Dec (before ≡ done) → done ≤ before → is_next missing n ≡ eqb before done
@@ -85,7 +75,7 @@ module _ (p : Program) (n : ℕ) (inside : n < step_count p) (s : Step) (e : s �
     pub next_other : not b ≡ true → before ≡ done → ⊥
     next_other t = eqb-false before done (sym is_next_same ∙ sym f ∙ not-true b t)
 
-  pub not_next_by : (before ≡ done → ⊥) → not_next missing ≡ pick (ltb before done) already_taken step_missing
+  pub not_next_by : (before ≡ done → ⊥) → not_next missing ≡ pick (ltb before done) AlreadyTaken StepMissing
   unfolding not_next
   not_next_by other =
       split done before

@@ -13,7 +13,7 @@ use Rattle.ground.specs.Outcome.Outcome.{good, bad}
 use Rattle.ground.specs.Refusing.{Test, test}
 use Rattle.ground.proofs.OutcomeLaws.{next_good, next_bad, leaves_refused}
 use Rattle.ground.proofs.RefusingLaws.{judged_good, refusal_listed, each_passes}
-use Rattle.fields.specs.Refusals.{beyond_limit, wrong_shape, too_short}
+use Rattle.ground.specs.declared.refusals.Reason.TheVariants.{BeyondLimit, WrongShape, TooShort}
 use Rattle.contents.specs.Sites.{is_at}
 use Rattle.contents.specs.declared.envelope.Envelope.{Envelope}
 use Rattle.papers.specs.Checks.{papers_of, GoodPapers}
@@ -27,6 +27,7 @@ use Rattle.ends.specs.Ends.{Marked, start_of, Sound}
 use Rattle.station.specs.Opening.{open_with, open_of, opened_marks}
 use Rattle.ends.specs.declared.ends.End.{End}
 use Rattle.ends.proofs.EndLaws.{no_steps}
+use Rattle.ground.specs.declared.refusals.Reason.{Reason}
 
 -- ---- taken
 
@@ -41,7 +42,7 @@ pub record OpenedBy (q : Papers) (site run : ℕ) (words marks : List ℕ) (x : 
 module _ (site run : ℕ) (words marks : List ℕ) where
   abbrev open_tests : Papers → List Test
   open_tests q =
-      shape_test q.envelope words ∷ test (ltb 7 site) beyond_limit 0 ∷ mark_count_test q.envelope words (length marks) ∷ []
+      shape_test q.envelope words ∷ test (ltb 7 site) BeyondLimit 0 ∷ mark_count_test q.envelope words (length marks) ∷ []
 
   abbrev effect : Papers → Marked
   effect q = record { end = start_of q site run; marks = opened_in q.envelope words (is_at q.envelope site) marks }
@@ -72,17 +73,17 @@ module _ (site run : ℕ) (words marks : List ℕ) where
 
     -- ---- refused: the papers' own refusal, or 10, 4, 11 at 0; nothing changed
 
-    pub open_number : (n u : ℕ) → open_of e p site run words marks ≡ bad n u
-        → (papers_of e p ≡ bad n u) ⊎ (Memᴰ n (wrong_shape ∷ beyond_limit ∷ too_short ∷ []) × (u ≡ 0))
+    pub open_number : (n : Reason) (u : ℕ) → open_of e p site run words marks ≡ bad n u
+        → (papers_of e p ≡ bad n u) ⊎ (Memᴰ n (WrongShape ∷ BeyondLimit ∷ TooShort ∷ []) × (u ≡ 0))
     unfolding open_of open_with
     open_number n u h = go (next_bad (papers_of e p) _ n u h)
       where
         go : (papers_of e p ≡ bad n u) ⊎ ((q : Papers) × (at : ℕ) × (papers_of e p ≡ good q at) × (open_with q site run words marks ≡ bad n u))
-            → (papers_of e p ≡ bad n u) ⊎ (Memᴰ n (wrong_shape ∷ beyond_limit ∷ too_short ∷ []) × (u ≡ 0))
+            → (papers_of e p ≡ bad n u) ⊎ (Memᴰ n (WrongShape ∷ BeyondLimit ∷ TooShort ∷ []) × (u ≡ 0))
         go (inl k) = inl k
         go (inr (q, at, _, k)) = inr (refusal_listed (open_tests q) (effect q) 0 n u (refl, (refl, (refl, tt))) k)
 
-    module _ (n u : ℕ) (h : open_of e p site run words marks ≡ bad n u) where
+    module _ (n : Reason) (u : ℕ) (h : open_of e p site run words marks ≡ bad n u) where
       pub open_untouched : opened_marks marks (open_of e p site run words marks) ≡ marks
       open_untouched = leaves_refused (λ (s : Marked). s.marks) marks (open_of e p site run words marks) n u h
 

@@ -11,12 +11,13 @@ use lib.Seq.{sets, take-add}
 use lib.Dec.{ltb, eqb}
 use borrow.Author.Tests.{ltb-false, eqb-true, not-false}
 use Rattle.ground.specs.Outcome.{verdict_of, leaves}
+use Rattle.std.specs.Prelude.{Err}
 use Rattle.ground.specs.Outcome.Outcome.{good, bad}
 use Rattle.ground.specs.Refusing.{Test, test, judged}
 use Rattle.ground.proofs.OutcomeLaws.{next_good, good_bad, leaves_refused, turned_bad}
 use Rattle.ground.proofs.RefusingLaws.{judged_good, refusal_listed, each_passes, refusal_or}
 use Rattle.ground.proofs.PuttingLaws.{sets_stand, sets_before, sets_behind}
-use Rattle.fields.specs.Refusals.{ends_inside, too_short, other_run, not_ours, not_sound, already_taken, step_missing}
+use Rattle.ground.specs.declared.refusals.Reason.TheVariants.{EndsInside, TooShort, OtherRun, NotOurs, NotSound, AlreadyTaken, StepMissing}
 use Rattle.contents.specs.Parts.{relation_count}
 use Rattle.contents.specs.Sites.{is_at}
 use Rattle.contents.specs.Kept.{kept_columns}
@@ -28,13 +29,15 @@ use Rattle.ends.specs.Reducing.{step_count, step_of, steps_before}
 use Rattle.tables.specs.Values.{room_test}
 use Rattle.ends.specs.Ends.{Marked, applied_of, has_arrived, assembly_test, usable, Usable}
 use Rattle.ends.specs.Messages.{front_length, run_of, second_of, body_of, about_of, counted, sound_values}
-use Rattle.station.specs.Receiving.{Stored, Held, with_applied, with_arrived, values_taken, rows_taken, taken, receive_with, receive_of, refused_by, shown_received, received_marks, received_store}
+use Rattle.station.specs.Receiving.{Stored, Held, with_applied, with_arrived, values_taken, rows_taken, taken, receive_with, receive_of, received_marks, received_store}
 use Rattle.ends.specs.declared.messages.About.{About}
 use Rattle.ends.specs.declared.messages.About.TheVariants as about
 use Rattle.ends.specs.declared.ends.End.{End}
 use Rattle.ends.proofs.EndLaws.{usable_is}
 use Rattle.ends.proofs.MessageLaws.{step_below, rows_below}
 use Rattle.ends.proofs.SoundLaws.{ToldFirst, call_number}
+use Rattle.ground.specs.declared.refusals.Reason.{Reason}
+use Rattle.ground.specs.Refusals.{refusal}
 
 -- ---- the values of a step
 
@@ -52,10 +55,10 @@ module _ (q : Papers) (x : End) (words marks m : List ℕ) (n : ℕ) where
 
   abbrev pub step_tests : List Test
   step_tests =
-      test (not (is_at q.envelope x.site relation)) not_ours 0
-      ∷ test (not (sound_values m)) not_sound 0
-      ∷ test (ltb (steps_before q.program relation n) (applied_of x relation)) already_taken 0
-      ∷ test (ltb (applied_of x relation) (steps_before q.program relation n)) step_missing 0
+      test (not (is_at q.envelope x.site relation)) NotOurs 0
+      ∷ test (not (sound_values m)) NotSound 0
+      ∷ test (ltb (steps_before q.program relation n) (applied_of x relation)) AlreadyTaken 0
+      ∷ test (ltb (applied_of x relation) (steps_before q.program relation n)) StepMissing 0
       ∷ []
 
   abbrev pub step_effect : Marked
@@ -109,8 +112,8 @@ module _ (q : Papers) (x : End) (store m : List ℕ) (r : ℕ) where
   abbrev pub rows_tests : List Test
   rows_tests =
       assembly_test q x
-      ∷ test (not (counted (length (kept_columns q.envelope r)) m)) not_sound 0
-      ∷ test (has_arrived x r) already_taken 0
+      ∷ test (not (counted (length (kept_columns q.envelope r)) m)) NotSound 0
+      ∷ test (has_arrived x r) AlreadyTaken 0
       ∷ room_test x.used (length store) m
       ∷ []
 
@@ -154,8 +157,8 @@ module _ (q : Papers) (x : End) (store m : List ℕ) (r : ℕ) (y : End) (kept :
 
 -- ---- the call
 
-abbrev pub last_numbers : List ℕ
-last_numbers = ends_inside ∷ other_run ∷ not_ours ∷ not_sound ∷ already_taken ∷ step_missing ∷ too_short ∷ []
+abbrev pub last_numbers : List Reason
+last_numbers = EndsInside ∷ OtherRun ∷ NotOurs ∷ NotSound ∷ AlreadyTaken ∷ StepMissing ∷ TooShort ∷ []
 
 module _ (q : Papers) (x : End) (words marks store m : List ℕ) where
   abbrev pub Taken : Held → Type 0
@@ -166,7 +169,7 @@ module _ (q : Papers) (x : End) (words marks store m : List ℕ) where
       × RowsTaken q x store m r h.end h.store × (h.marks ≡ marks))
 
   abbrev front_tests : List Test
-  front_tests = test (ltb (length m) front_length) ends_inside 0 ∷ test (not (eqb (run_of m) x.run)) other_run 0 ∷ []
+  front_tests = test (ltb (length m) front_length) EndsInside 0 ∷ test (not (eqb (run_of m) x.run)) OtherRun 0 ∷ []
 
   by_about : (w : About) → about_of (step_count q.program) (relation_count q.envelope) (second_of m) ≡ w → (h : Held) (u : ℕ)
       → taken q x words marks store m w ≡ good h u → Taken h
@@ -179,7 +182,7 @@ module _ (q : Papers) (x : End) (words marks store m : List ℕ) where
       let (s, p, good-s, made) = next_good (rows_taken q x store m r) _ h u e in
       let same : record { end = s.end; marks = marks; store = s.store } ≡ h = cc in
       inr (r, w, rw (← same) (rows_facts q x store m r (rows_below _ _ _ r w) s p good-s), ap (λ (k : Held). k.marks) (sym same))
-  by_about about.Nothing w h u e = absurd (good_bad h u not_ours 0 (sym e))
+  by_about about.Nothing w h u e = absurd (good_bad h u NotOurs 0 (sym e))
 
   pub with_facts : (h : Held) (u : ℕ) → receive_with q x words marks store m ≡ good h u
       → (front_length ≤ length m) × (run_of m ≡ x.run) × Taken h
@@ -192,44 +195,44 @@ module _ (q : Papers) (x : End) (words marks store m : List ℕ) where
 
   -- ---- refused: by 1, 13, 14, 15, 16, 17, 11 at 0
 
-  step_number : (n k u : ℕ) → values_taken q x words marks m n ≡ bad k u → Memᴰ k last_numbers × (u ≡ 0)
+  step_number : (n : ℕ) (k : Reason) (u : ℕ) → values_taken q x words marks m n ≡ bad k u → Memᴰ k last_numbers × (u ≡ 0)
   step_number n k u h =
       let (listed, zero) =
       refusal_listed (step_tests q x words marks m n) (step_effect q x words marks m n) 0 k u (refl, (refl, (refl, (refl, tt))))
       (sym (step_judged q x words marks m n) ∙ h) in
-      (Memᴰ.tail (Memᴰ.tail (Memᴰ.append_left (too_short ∷ []) listed)), zero)
+      (Memᴰ.tail (Memᴰ.tail (Memᴰ.append_left (TooShort ∷ []) listed)), zero)
 
-  rows_number : (r k u : ℕ) → rows_taken q x store m r ≡ bad k u → Memᴰ k last_numbers × (u ≡ 0)
+  rows_number : (r : ℕ) (k : Reason) (u : ℕ) → rows_taken q x store m r ≡ bad k u → Memᴰ k last_numbers × (u ≡ 0)
   rows_number r k u h =
       let (listed, zero) =
       refusal_listed (rows_tests q x store m r) (rows_effect q x store m r) 0 k u (refl, (refl, (refl, (refl, tt))))
       (sym (rows_judged q x store m r) ∙ h) in
-      (Memᴰ.tail (Memᴰ.tail (go (Memᴰ.append_cases (not_ours ∷ not_sound ∷ already_taken ∷ []) listed))), zero)
+      (Memᴰ.tail (Memᴰ.tail (go (Memᴰ.append_cases (NotOurs ∷ NotSound ∷ AlreadyTaken ∷ []) listed))), zero)
     where
-      go : Memᴰ k (not_ours ∷ not_sound ∷ already_taken ∷ []) ⊎ Memᴰ k (too_short ∷ [])
-          → Memᴰ k (not_ours ∷ not_sound ∷ already_taken ∷ step_missing ∷ too_short ∷ [])
-      go (inl l) = Memᴰ.append_left (step_missing ∷ too_short ∷ []) l
-      go (inr l) = Memᴰ.append_right (not_ours ∷ not_sound ∷ already_taken ∷ step_missing ∷ []) l
+      go : Memᴰ k (NotOurs ∷ NotSound ∷ AlreadyTaken ∷ []) ⊎ Memᴰ k (TooShort ∷ [])
+          → Memᴰ k (NotOurs ∷ NotSound ∷ AlreadyTaken ∷ StepMissing ∷ TooShort ∷ [])
+      go (inl l) = Memᴰ.append_left (StepMissing ∷ TooShort ∷ []) l
+      go (inr l) = Memᴰ.append_right (NotOurs ∷ NotSound ∷ AlreadyTaken ∷ StepMissing ∷ []) l
 
-  about_number : (w : About) (k u : ℕ) → taken q x words marks store m w ≡ bad k u → Memᴰ k last_numbers × (u ≡ 0)
+  about_number : (w : About) (k : Reason) (u : ℕ) → taken q x words marks store m w ≡ bad k u → Memᴰ k last_numbers × (u ≡ 0)
   unfolding taken
   about_number (about.Step n) k u h = step_number n k u (turned_bad _ (values_taken q x words marks m n) k u h)
   about_number (about.Rows r) k u h = rows_number r k u (turned_bad _ (rows_taken q x store m r) k u h)
   about_number about.Nothing k u h =
-      let same : k ≡ not_ours = cc in
+      let same : k ≡ NotOurs = cc in
       let zero : u ≡ 0 = cc in
       (Memᴰ.tail (Memᴰ.tail (Memᴰ.head same)), zero)
 
-  with_number : (k u : ℕ) → receive_with q x words marks store m ≡ bad k u → Memᴰ k last_numbers × (u ≡ 0)
+  with_number : (k : Reason) (u : ℕ) → receive_with q x words marks store m ≡ bad k u → Memᴰ k last_numbers × (u ≡ 0)
   unfolding receive_with
   with_number k u h = go (refusal_or front_tests (taken q x words marks store m w) k u (refl, (refl, tt)) h)
     where
       w : About
       w = about_of (step_count q.program) (relation_count q.envelope) (second_of m)
 
-      go : (Memᴰ k (ends_inside ∷ other_run ∷ []) × (u ≡ 0)) ⊎ (taken q x words marks store m w ≡ bad k u)
+      go : (Memᴰ k (EndsInside ∷ OtherRun ∷ []) × (u ≡ 0)) ⊎ (taken q x words marks store m w ≡ bad k u)
           → Memᴰ k last_numbers × (u ≡ 0)
-      go (inl (l, z)) = (Memᴰ.append_left (not_ours ∷ not_sound ∷ already_taken ∷ step_missing ∷ too_short ∷ []) l, z)
+      go (inl (l, z)) = (Memᴰ.append_left (NotOurs ∷ NotSound ∷ AlreadyTaken ∷ StepMissing ∷ TooShort ∷ []) l, z)
       go (inr e) = about_number w k u e
 
 module _ (x : End) (words marks store m : List ℕ) where
@@ -242,7 +245,7 @@ module _ (x : End) (words marks store m : List ℕ) where
       (q, usable_is x words (length marks) q at fine, long, run, took)
 
   -- refused: as every call on an end, or by one of those
-  pub received_number : (k u : ℕ) → receive_of x words marks store m ≡ bad k u
+  pub received_number : (k : Reason) (u : ℕ) → receive_of x words marks store m ≡ bad k u
       → ToldFirst x words (length marks) k u ⊎ (Memᴰ k last_numbers × (u ≡ 0))
   unfolding receive_of
   received_number k u =
@@ -250,13 +253,14 @@ module _ (x : End) (words marks store m : List ℕ) where
 
 -- ---- a refusal leaves the end, the marks and the store, and is answered
 
-module _ (x : End) (words marks store m : List ℕ) (n u : ℕ) (h : receive_of x words marks store m ≡ bad n u) where
+module _ (x : End) (words marks store m : List ℕ) (n : Reason) (u : ℕ) (h : receive_of x words marks store m ≡ bad n u) where
   pub received_marks_lem : received_marks marks (receive_of x words marks store m) ≡ marks
   received_marks_lem = leaves_refused (λ (k : Held). k.marks) marks (receive_of x words marks store m) n u h
 
   pub received_store_lem : received_store store (receive_of x words marks store m) ≡ store
   received_store_lem = leaves_refused (λ (k : Held). k.store) store (receive_of x words marks store m) n u h
 
-  pub received_end : shown_received (λ (k : Held). k.end) x (receive_of x words marks store m) ≡ refused_by x n u
-  unfolding shown_received verdict_of leaves
-  received_end = ap (shown_received (λ (k : Held). k.end) x) h
+  pub received_end : (verdict_of (receive_of x words marks store m) ≡ Err (refusal n u))
+      × (leaves (λ (k : Held). k.end) x (receive_of x words marks store m) ≡ x)
+  unfolding verdict_of
+  received_end = (ap verdict_of h, leaves_refused (λ (k : Held). k.end) x (receive_of x words marks store m) n u h)

@@ -2,12 +2,12 @@
 use mathlib.Core.Path.{◌≡◌, refl, ap, sym, ◌∙◌}
 use mathlib.Core.Bool.{Bool, true, false}
 use mathlib.Core.List.{List, [], ◌∷◌, ◌++◌, map, append-nil}
-use Prim.Native.Nat.{ℕ, ◌+◌, ◌*◌, ◌≤◌, ◌<◌, min}
-use native.Mathlib.Nat.{mul-le-mul_right, suc-mul, zero-mul}
+use Prim.Native.Nat.{ℕ, ◌+◌, ◌*◌, ◌≤◌, ◌<◌}
+use native.Mathlib.Nat.{mul-le-mul_right, suc-mul, zero-mul, add-zero, add_assoc}
 use native.Mathlib.Numerals.{add-one}
 use native.Mathlib.Omega.{arith}
-use lib.ListN.{length, get_or, take, length-append, length-map, length-take}
-use lib.Seq.{sets, length-sets, get_or-take, take_all}
+use lib.ListN.{length, get_or, set, length-append, length-map}
+use lib.Seq.{sets, length-sets, take_all}
 use Rattle.ground.specs.Lists.{filter, below, numbers_from, each}
 use Rattle.ground.proofs.ListLaws.{each_append, each_map, filter_length, get_d_map}
 use Rattle.ground.proofs.NumbersLaws.{below_length, filter_below}
@@ -34,30 +34,25 @@ module _ (f : ℕ → Bool) (n i count : ℕ) (c : Counting f n i count) (h : i 
 
 -- ---- the words of one row
 
-module _ (f : ℕ → ℕ) (numbers : List ℕ) (long : length numbers ≡ 8) (count : ℕ) (before : List ℕ) (at end : ℕ) (e : end ≡ min 8 count) where
+module _ (f : ℕ → ℕ) (numbers : List ℕ) (before : List ℕ) (at : ℕ) where
   abbrev columns : List ℕ
-  columns = map f (take count numbers)
+  columns = map f numbers
 
-  all_of : length columns ≡ end
-  all_of = length-map (take count numbers) f ∙ length-take count numbers ∙ rw long (omega arith)
+  all_of : length columns ≡ length numbers
+  all_of = length-map numbers f
 
-  pub row_start : Copying columns before at end 0 at before
-  row_start = copying_start columns before at end (omega (arith, all_of))
+  pub row_start : Copying columns before at (length numbers) 0 (at + 0) before
+  row_start = rw (add-zero at) (copying_start columns before at (length numbers) (omega (arith, all_of)))
 
-  module _ (i p : ℕ) (out : List ℕ) (c : Copying columns before at end i p out) where
-    pub row_more : i < end → (w : ℕ) → w ≡ f (get_or numbers i 0) → (after : List ℕ) → after ≡ sets out p (w ∷ []) → Copying columns before at end (i + 1) (p + 1) after
-    row_more h w g after s =
-        let k : i < length (take count numbers) = omega (arith, all_of, length-map (take count numbers) f) in
-        let v : w ≡ get_or columns i 0 =
-        g ∙ ap f (sym (get_or-take count numbers i 0 (omega arith))) ∙ sym (get_d_map f (take count numbers) i 0 0 k) in
-        rw (s, v) (copying_more columns before at end i p out c 0 h)
+  module _ (i : ℕ) (out : List ℕ) (c : Copying columns before at (length numbers) i (at + i) out) where
+    pub row_more : i < length numbers → (w : ℕ) → w ≡ f (get_or numbers i 0)
+        → Copying columns before at (length numbers) (i + 1) (at + (i + 1)) (set out (at + i) w)
+    row_more h w g =
+        rw (g ∙ sym (get_d_map f numbers i 0 0 h), ← add_assoc at i 1) (copying_more columns before at (length numbers) i (at + i) out c 0 h)
 
-    pub row_place : i < end → at + length (take count numbers) ≤ length before → p < length out
-    row_place h r =
-        omega (arith, c.place, all_of, length-map (take count numbers) f, ap (λ (l : List ℕ). length l) c.same ∙ length-sets before at (take i columns))
-
-    pub row_done : end ≤ i → out ≡ sets before at columns
-    row_done h = copying_done columns before at end i p out c h ∙ ap (sets before at) (take_all end columns (omega (arith, all_of)))
+    pub row_done : length numbers ≤ i → out ≡ sets before at columns
+    row_done h =
+        copying_done columns before at (length numbers) i (at + i) out c h ∙ ap (sets before at) (take_all (length numbers) columns (omega (arith, all_of)))
 
 -- ---- the words of every kept row: f tells those that are kept, words has k words for each
 
@@ -153,18 +148,18 @@ module _ (e : Envelope) (words marks : List ℕ) (r : ℕ) where
 
 -- ---- the loop over a relation's rows
 
-module _ (x : Extent) (words marks numbers : List ℕ) (count : ℕ) (before : List ℕ) where
+module _ (x : Extent) (words marks numbers : List ℕ) (before : List ℕ) where
   abbrev width_sent : ℕ
-  width_sent = length (take count numbers)
+  width_sent = length numbers
 
   abbrev shipped : ℕ → List ℕ
-  shipped i = map (word_over x words i) (take count numbers)
+  shipped i = map (word_over x words i) numbers
 
   pub record Shipping (i at : ℕ) (out : List ℕ) : Type 0 where
     pub sending : Sending (kept_over x marks) shipped width_sent x.rows before i at out
 
   same_width : (i : ℕ) → length (shipped i) ≡ width_sent
-  same_width i = length-map (take count numbers) (word_over x words i)
+  same_width i = length-map numbers (word_over x words i)
 
   pub shipping_start : Shipping 0 3 before
   shipping_start = record { sending = sending_start (kept_over x marks) shipped width_sent same_width x.rows before }
@@ -181,17 +176,16 @@ module _ (x : Extent) (words marks numbers : List ℕ) (count : ℕ) (before : L
           → at + width_sent ≤ length out
       shipping_room t r = sending_room (kept_over x marks) shipped width_sent same_width x.rows before i at out c.sending h b e t r
 
-      pub shipping_fits : b ≡ true → 3 + length (filter (kept_over x marks) (below x.rows)) * width_sent ≤ length before → (width : ℕ)
-          → width ≡ min 8 count → length numbers ≡ 8 → at + width ≤ length before
-      shipping_fits t r width g long = omega (arith, shipping_room t r, shipping_long, g, long, length-take count numbers)
+      pub shipping_fits : b ≡ true → 3 + length (filter (kept_over x marks) (below x.rows)) * width_sent ≤ length before
+          → at + width_sent ≤ length before
+      shipping_fits t r = omega (arith, shipping_room t r, shipping_long)
 
-      pub shipping_yes : b ≡ true → (after put : List ℕ) → after ≡ put → put ≡ sets out at (shipped i) → (width next : ℕ)
-          → width ≡ min 8 count → length numbers ≡ 8 → next ≡ at + width → Shipping (i + 1) next after
-      shipping_yes t after put s r width next g long p =
+      pub shipping_yes : b ≡ true → (after put : List ℕ) → after ≡ put → put ≡ sets out at (shipped i) → (next : ℕ)
+          → next ≡ at + width_sent → Shipping (i + 1) next after
+      shipping_yes t after put s r next p =
           record {
             sending =
-                sending_yes (kept_over x marks) shipped width_sent same_width x.rows before i at out c.sending h b e t after (s ∙ r) next
-                (p ∙ omega (arith, g, long, length-take count numbers));
+                sending_yes (kept_over x marks) shipped width_sent same_width x.rows before i at out c.sending h b e t after (s ∙ r) next p;
           }
 
       pub shipping_no : b ≡ false → (after : List ℕ) → after ≡ out → (next : ℕ) → next ≡ at → Shipping (i + 1) next after

@@ -8,18 +8,14 @@ use native.Mathlib.Omega.{arith}
 use lib.ListN.{length, take}
 use lib.Seq.{sets, length-sets}
 use Rattle.ground.specs.Lists.{filter, below, each}
-use Rattle.ground.specs.Outcome.{Outcome}
+use Rattle.ground.specs.Outcome.{Outcome, Verdict, taken_of}
 use Rattle.ground.specs.Refusing.{judged, judgement}
-use Rattle.ground.specs.declared.Verdict.{Verdict}
-use Rattle.ground.specs.declared.Verdict.TheVariants as v
 use Rattle.ground.proofs.ListLaws.{filter_length}
 use Rattle.ground.proofs.NumbersLaws.{below_length}
 use Rattle.ground.proofs.CollectingLaws.{padded_take}
 use Rattle.ground.proofs.RefusingLaws.{judge_refused, judge_taken}
-use Rattle.fields.specs.Refusals.{too_short, not_ours}
+use Rattle.ground.specs.declared.refusals.Reason.TheVariants.{TooShort, NotOurs}
 use Rattle.fields.specs.Puts.{fitted}
-use Rattle.fields.specs.declared.puts.Written.{Written}
-use Rattle.fields.specs.declared.puts.Written.TheVariants.{Length, Refused}
 use Rattle.fields.proofs.PutLaws.{Writes, writes_bad, writes_good, writes_same, fitted_short, fitted_fits}
 use Rattle.contents.specs.Parts.{relation_count}
 use Rattle.contents.specs.Sites.{is_at}
@@ -29,10 +25,8 @@ use Rattle.contents.specs.declared.kept.Columns.{Columns}
 use Rattle.contents.proofs.KeptLaws.{kept_most}
 use Rattle.contents.proofs.SiteLaws.{at_none}
 use Rattle.entries.specs.Places.{place}
-use Rattle.papers.specs.Checks.{shown_papers}
 use Rattle.papers.specs.declared.programs.Program.{Program}
 use Rattle.papers.specs.declared.checks.Papers.{Papers}
-use Rattle.papers.specs.declared.checks.PapersRead.{PapersRead}
 use Rattle.tables.specs.Offsets.{count_in, row_count}
 use Rattle.tables.specs.Shape.{shaped}
 use Rattle.tables.specs.Offsets.{extent_of}
@@ -45,23 +39,24 @@ use Rattle.ends.specs.Ends.{usable}
 use Rattle.ends.specs.Messages.{row_message}
 use Rattle.station.specs.Making.{send_tests, sent_rows, rows_with, make_rows_of}
 use Rattle.ends.specs.declared.ends.End.{End}
-use Rattle.ends.proofs.EndLaws.{here_below, call_refused, call_with}
-use Rattle.station.proofs.MakingCodeLaws.{sending_ours}
+use Rattle.ends.proofs.EndLaws.{here_below}
+use Rattle.station.proofs.MakingCodeLaws.{sending_ours, call_refused, call_goes}
 use Rattle.station.proofs.RowCodeLaws.{chosen, row_words, message_is, message_long}
+use Rattle.ground.specs.Refusals.{refusal}
+use Rattle.std.specs.Prelude.{Result, Ok, Err}
+use Rattle.ground.specs.declared.refusals.Refusal.{Refusal}
+
+-- the kept columns as they are handed over
+pub kept_in_use : (e : Envelope) (r : ℕ) (x : Columns) → x ≡ shown_columns (kept_columns e r) → take x.count x.numbers ≡ kept_columns e r
+kept_in_use e r x g = rw g (padded_take 8 0 (kept_columns e r))
 
 -- ---- the message into the buffer
 
 module _ (e : Envelope) (words marks : List ℕ) (r : ℕ) (shape : shaped e words ≡ true) (room : row_count e words ≤ length marks)
-    (h : r < relation_count e) (run : ℕ) (out : List ℕ) (x : Extent) (a : x ≡ extent_of e words r) (c : Columns)
-    (d : c ≡ shown_columns (kept_columns e r)) (count : ℕ) (f : count ≡ length (filter (kept_over x marks) (below x.rows))) where
+    (h : r < relation_count e) (run : ℕ) (out : List ℕ) (x : Extent) (a : x ≡ extent_of e words r) (columns : List ℕ)
+    (columns_are : columns ≡ kept_columns e r) (count : ℕ) (f : count ≡ length (filter (kept_over x marks) (below x.rows))) where
   abbrev made : List ℕ
   made = row_message run r (sent_rows e words marks r)
-
-  abbrev columns : List ℕ
-  columns = take c.count c.numbers
-
-  columns_are : columns ≡ kept_columns e r
-  columns_are = ap (λ (k : Columns). take k.count k.numbers) d ∙ padded_take 8 0 (kept_columns e r)
 
   chosen_is : filter (kept_over x marks) (below x.rows) ≡ chosen e words marks r
   chosen_is =
@@ -85,52 +80,53 @@ module _ (e : Envelope) (words marks : List ℕ) (r : ℕ) (shape : shaped e wor
         (shaped_shape e words shape).few r,
       )
 
-  module _ (width : ℕ) (g : width ≡ min 8 c.count) where
-    width_is : width ≡ length (kept_columns e r)
-    width_is = g ∙ ap (λ (k : Columns). min 8 k.count) d ∙ omega (arith, kept_most e r)
+  abbrev width : ℕ
+  width = length columns
 
-    pub message_product : count * width ≤ 32768
-    message_product = let a : width ≤ 8 = omega (arith, kept_most e r, width_is) in mul-le-mul message_few a
+  width_is : width ≡ length (kept_columns e r)
+  width_is = ap (λ (l : List ℕ). length l) columns_are
 
-    length_is : length made ≡ 3 + count * width
-    length_is =
-        message_long e words marks r run
-        ∙ rw (width_is, f, chosen_is)
+  pub message_product : count * width ≤ 32768
+  message_product = let a : width ≤ 8 = omega (arith, kept_most e r, width_is) in mul-le-mul message_few a
 
-    pub message_short : length out < 3 + count * width → Writes 0 out (fitted (length out) made) (Refused too_short 0) out
-    message_short l = writes_bad 0 out _ too_short 0 (fitted_short (length out) made (omega (arith, length_is)))
+  length_is : length made ≡ 3 + count * width
+  length_is =
+      message_long e words marks r run
+      ∙ rw (width_is, f, chosen_is)
 
-    module _ (l : 3 + count * width ≤ length out) (middle : List ℕ) (m : middle ≡ sets out 0 (run ∷ (256 + r) ∷ count ∷ [])) where
-      pub message_room : 3 + length (filter (kept_over x marks) (below x.rows)) * length columns ≤ length middle
-      message_room =
-          let s : length columns ≡ width = ap (λ (l : List ℕ). length l) columns_are ∙ sym width_is in
-          let t : length middle ≡ length out = ap (λ (l : List ℕ). length l) m ∙ length-sets out 0 (run ∷ (256 + r) ∷ count ∷ []) in
-          rw (s, ← f, t) l
+  pub message_short : length out < 3 + count * width → Writes 0 out (fitted (length out) made) (Err (refusal TooShort 0)) out
+  message_short l = writes_bad 0 out _ TooShort 0 (fitted_short (length out) made (omega (arith, length_is)))
 
-      pub message_made : (last : List ℕ)
-          → last ≡ sets middle 3 (each (λ i. map (word_over x words i) columns) (filter (kept_over x marks) (below x.rows)))
-          → Writes 0 out (fitted (length out) made) (Length (3 + count * width)) last
-      message_made last k =
-          writes_good 0 out (fitted (length out) made) made _ (3 + count * width) last (fitted_fits (length out) made (omega (arith, length_is)))
-          (sym length_is)
-          (k ∙ rw (m, words_are, chosen_is, f, message_is e words marks r run, chosen_is))
+  module _ (l : 3 + count * width ≤ length out) (middle : List ℕ) (m : middle ≡ sets out 0 (run ∷ (256 + r) ∷ count ∷ [])) where
+    pub message_room : 3 + length (filter (kept_over x marks) (below x.rows)) * length columns ≤ length middle
+    message_room =
+        let t : length middle ≡ length out = ap (λ (l : List ℕ). length l) m ∙ length-sets out 0 (run ∷ (256 + r) ∷ count ∷ []) in
+        rw (← f, t) l
+
+    pub message_made : (last : List ℕ)
+        → last ≡ sets middle 3 (each (λ i. map (word_over x words i) columns) (filter (kept_over x marks) (below x.rows)))
+        → Writes 0 out (fitted (length out) made) (Ok (3 + count * width)) last
+    message_made last k =
+        writes_good 0 out (fitted (length out) made) made _ (3 + count * width) last (fitted_fits (length out) made (omega (arith, length_is)))
+        (sym length_is)
+        (k ∙ rw (m, words_are, chosen_is, f, message_is e words marks r run, chosen_is))
 
 -- ---- the call
 
 pub rows_here : (e : Envelope) (site r : ℕ) (p : Program) (applied : List ℕ) (ours : Bool) → ours ≡ is_at e site r → (n : ℕ) (w : Verdict)
-    → w ≡ judgement (send_tests p applied ours r n) → w ≡ v.Taken → r < relation_count e
+    → w ≡ judgement (send_tests p applied ours r n) → w ≡ Ok (tt {0}) → r < relation_count e
 rows_here e site r p applied ours f n w k h = here_below e site r (sym f ∙ sending_ours p applied ours r n w k h)
 
 module _ (q : Papers) (x : End) (words marks : List ℕ) (r : ℕ) (out : List ℕ) where
   abbrev outcome : Outcome (List ℕ)
   outcome = rows_with q x words marks r (length out)
 
-  pub rows_nowhere : 7 < r → Writes 0 out outcome (Refused not_ours 0) out
+  pub rows_nowhere : 7 < r → Writes 0 out outcome (Err (refusal NotOurs 0)) out
   unfolding rows_with
   rows_nowhere h =
       let none : is_at q.envelope x.site r ≡ false =
       sym (at_none q.envelope r x.site (min 8 q.envelope.relation_count) refl (omega arith)) in
-      writes_bad 0 out outcome not_ours 0 (rw none)
+      writes_bad 0 out outcome NotOurs 0 (rw none)
 
   module _ (ours : Bool) (f : ours ≡ is_at q.envelope x.site r) (n : ℕ) (g : n ≡ step_count q.program) (w : Verdict)
       (k : w ≡ judgement (send_tests q.program x.applied ours r n)) where
@@ -139,21 +135,22 @@ module _ (q : Papers) (x : End) (words marks : List ℕ) (r : ℕ) (out : List �
     unfolding rows_with
     whole = rw (f, g)
 
-    pub rows_wait : (m p : ℕ) → w ≡ v.Refused m p → Writes 0 out outcome (Refused m p) out
-    rows_wait m p h = writes_bad 0 out outcome m p (whole ∙ judge_refused (send_tests q.program x.applied ours r n) w k _ m p h)
+    pub rows_wait : (o : Refusal) → w ≡ Err o → Writes 0 out outcome (Err o) out
+    rows_wait o h =
+        writes_bad 0 out outcome o.reason o.position
+        (whole ∙ judge_refused (send_tests q.program x.applied ours r n) w k _ o.reason o.position h)
 
-    pub rows_made : w ≡ v.Taken → (z : Written) (after : List ℕ)
+    pub rows_made : w ≡ Ok (tt {0}) → (z : Result ℕ Refusal) (after : List ℕ)
         → Writes 0 out (fitted (length out) (row_message x.run r (sent_rows q.envelope words marks r))) z after → Writes 0 out outcome z after
     rows_made h z after m =
         writes_same 0 out outcome _ (whole ∙ judge_taken (send_tests q.program x.applied ours r n) w k _ h) z after m
 
-module _ (x : End) (words marks : List ℕ) (r : ℕ) (out : List ℕ) (c : PapersRead) (k : c ≡ shown_papers (usable x words (length marks))) where
-  pub make_rows_refused : (m u : ℕ) → c.verdict ≡ v.Refused m u → Writes 0 out (make_rows_of x words marks r (length out)) (Refused m u) out
+module _ (x : End) (words marks : List ℕ) (r : ℕ) (out : List ℕ) (c : Result Papers Refusal) (k : c ≡ taken_of (usable x words (length marks))) where
+  pub make_rows_refused : (y : Refusal) → c ≡ Err y → Writes 0 out (make_rows_of x words marks r (length out)) (Err y) out
   unfolding make_rows_of
-  make_rows_refused m u h = writes_bad 0 out _ m u (call_refused (λ q. rows_with q x words marks r (length out)) x words (length marks) c k m u h)
+  make_rows_refused = call_refused (λ q. rows_with q x words marks r (length out)) (usable x words (length marks)) out c k
 
-  pub make_rows_with : c.verdict ≡ v.Taken → (z : Written) (after : List ℕ) → Writes 0 out (rows_with c.papers x words marks r (length out)) z after
-      → Writes 0 out (make_rows_of x words marks r (length out)) z after
+  pub make_rows_goes : (q : Papers) → c ≡ Ok q → (z : Result ℕ Refusal) (after : List ℕ)
+      → Writes 0 out (rows_with q x words marks r (length out)) z after → Writes 0 out (make_rows_of x words marks r (length out)) z after
   unfolding make_rows_of
-  make_rows_with h z after m =
-      writes_same 0 out _ _ (call_with (λ q. rows_with q x words marks r (length out)) x words (length marks) c k h) z after m
+  make_rows_goes = call_goes (λ q. rows_with q x words marks r (length out)) (usable x words (length marks)) out c k

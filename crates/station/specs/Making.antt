@@ -4,7 +4,7 @@
 use Rattle.std.specs.Prelude.{ℕ, Bool, ◌&&◌, not, List, [], ◌∷◌, map, length, slice_index, nat_lt}
 use Rattle.ground.specs.Outcome.{Outcome, next}
 use Rattle.ground.specs.Refusing.{Test, test, judged}
-use Rattle.fields.specs.Refusals.{waiting, not_ours}
+use Rattle.ground.specs.declared.refusals.Reason.TheVariants.{Waiting, NotOurs}
 use Rattle.fields.specs.Puts.{fitted}
 use Rattle.contents.specs.Sites.{is_at}
 use Rattle.contents.specs.Kept.{kept_columns}
@@ -22,8 +22,8 @@ use Rattle.ends.specs.declared.ends.End.{End}
 -- 14, 12: a message is ours, and none of the steps of its relation below n is missing
 abbrev pub send_tests : Program → List ℕ → Bool → ℕ → ℕ → List Test
 send_tests p applied ours r n =
-    test (not ours) not_ours 0
-    ∷ test (is_missing p r (slice_index applied r) n) waiting (first_missing p r (slice_index applied r) n)
+    test (not ours) NotOurs 0
+    ∷ test (is_missing p r (slice_index applied r) n) Waiting (first_missing p r (slice_index applied r) n)
     ∷ []
 
 -- the value message of a step: 14, 12, then 11 where it does not fit into so much room

@@ -1,13 +1,14 @@
 -- "The receiver applies a relation's steps in program order and stores 0 at each row removed." "The assembly site appends the
 -- first row message of each relation, whole, to a lent store, also for its own relations." "Receiving: 10, 11 (marks), 1, 13, 14,
 -- 15, 16 or 17, 11 (store, exactly when the message doesn't fit behind those held)."
-use Rattle.std.specs.Prelude.{ℕ, ◌+◌, Bool, true, false, not, List, [], ◌∷◌, length, set, nat_eq, nat_lt}
+use Rattle.std.specs.Prelude.{ℕ, ◌+◌, Bool, true, not, Option, Some, None, List, [], ◌∷◌, length, set, nat_eq, nat_lt}
+use Rattle.std.specs.Option.{option_eq}
 use Rattle.std.proofs.lemmas.List.Edits.{sets}
-use Rattle.ground.specs.Outcome.{Outcome, next, verdict_of, leaves}
+use Rattle.ground.specs.Outcome.{Outcome, next, leaves}
 use Rattle.ground.specs.Outcome.Outcome.{good, bad}
-use Rattle.ground.specs.declared.Verdict.TheVariants.{Refused}
 use Rattle.ground.specs.Refusing.{test, judged}
-use Rattle.fields.specs.Refusals.{ends_inside, other_run, not_ours, not_sound, already_taken, step_missing}
+use Rattle.ground.specs.declared.refusals.Reason.TheVariants.{EndsInside, OtherRun, NotOurs, NotSound, AlreadyTaken, StepMissing}
+use Rattle.ground.specs.declared.refusals.Reason.{Reason}
 use Rattle.contents.specs.Parts.{relation_count}
 use Rattle.contents.specs.Sites.{is_at}
 use Rattle.contents.specs.Kept.{kept_columns}
@@ -17,12 +18,9 @@ use Rattle.semijoin.specs.Marks.{reduced_by}
 use Rattle.ends.specs.Reducing.{step_count, step_of, steps_before}
 use Rattle.ends.specs.Ends.{Marked, applied_of, has_arrived, assembly_test, usable}
 use Rattle.ends.specs.Messages.{front_length, run_of, second_of, body_of, about_of, counted, sound_values}
-use Rattle.ends.specs.declared.reducing.Missing.{Missing}
-use Rattle.ends.specs.declared.reducing.Missing.TheVariants.{First, None}
 use Rattle.ends.specs.declared.messages.About.{About}
 use Rattle.ends.specs.declared.messages.About.TheVariants as about
 use Rattle.ends.specs.declared.ends.End.{End}
-use Rattle.station.specs.declared.receiving.Received.{Received}
 
 -- an end and its store; an end, its marks and its store
 pub record Stored : Type 0 where
@@ -63,13 +61,12 @@ with_arrived x r words =
     }
 
 -- by the first missing step of a relation up to step n: step n is the next one; if not, 16 where none is missing, 17 where an earlier one is
-unfoldable pub is_next : Missing → ℕ → Bool
-is_next (First first) n = nat_eq first n
-is_next None n = false
+abbrev pub is_next : Option ℕ → ℕ → Bool
+is_next missing n = option_eq nat_eq missing (Some n)
 
-unfoldable pub not_next : Missing → ℕ
-not_next (First first) = step_missing
-not_next None = already_taken
+unfoldable pub not_next : Option ℕ → Reason
+not_next (Some first) = StepMissing
+not_next None = AlreadyTaken
 
 -- the values of step n
 unfoldable pub values_taken : Papers → End → List ℕ → List ℕ → List ℕ → ℕ → Outcome Marked
@@ -77,10 +74,10 @@ values_taken q x words marks m n =
     let a = (step_of q.program n).left in
     let before = steps_before q.program a.relation n in
     judged
-    (test (not (is_at q.envelope x.site a.relation)) not_ours 0
-    ∷ test (not (sound_values m)) not_sound 0
-    ∷ test (nat_lt before (applied_of x a.relation)) already_taken 0
-    ∷ test (nat_lt (applied_of x a.relation) before) step_missing 0
+    (test (not (is_at q.envelope x.site a.relation)) NotOurs 0
+    ∷ test (not (sound_values m)) NotSound 0
+    ∷ test (nat_lt before (applied_of x a.relation)) AlreadyTaken 0
+    ∷ test (nat_lt (applied_of x a.relation) before) StepMissing 0
     ∷ [])
     (good (record { end = with_applied x a.relation; marks = reduced_by q.envelope words (body_of m) a marks }) 0)
 
@@ -89,8 +86,8 @@ unfoldable pub rows_taken : Papers → End → List ℕ → List ℕ → ℕ →
 rows_taken q x store m r =
     judged
     (assembly_test q x
-    ∷ test (not (counted (length (kept_columns q.envelope r)) m)) not_sound 0
-    ∷ test (has_arrived x r) already_taken 0
+    ∷ test (not (counted (length (kept_columns q.envelope r)) m)) NotSound 0
+    ∷ test (has_arrived x r) AlreadyTaken 0
     ∷ room_test x.used (length store) m
     ∷ [])
     (good (record { end = with_arrived x r (length m); store = sets store x.used m }) 0)
@@ -101,25 +98,18 @@ taken q x words marks store m (about.Step n) =
     next (values_taken q x words marks m n) (λ s p. good (record { end = s.end; marks = s.marks; store = store }) p)
 taken q x words marks store m (about.Rows r) =
     next (rows_taken q x store m r) (λ s p. good (record { end = s.end; marks = marks; store = s.store }) p)
-taken q x words marks store m about.Nothing = bad not_ours 0
+taken q x words marks store m about.Nothing = bad NotOurs 0
 
 unfoldable pub receive_with : Papers → End → List ℕ → List ℕ → List ℕ → List ℕ → Outcome Held
 receive_with q x words marks store m =
     judged
-    (test (nat_lt (length m) front_length) ends_inside 0 ∷ test (not (nat_eq (run_of m) x.run)) other_run 0 ∷ [])
+    (test (nat_lt (length m) front_length) EndsInside 0 ∷ test (not (nat_eq (run_of m) x.run)) OtherRun 0 ∷ [])
     (taken q x words marks store m (about_of (step_count q.program) (relation_count q.envelope) (second_of m)))
 
 unfoldable pub receive_of : End → List ℕ → List ℕ → List ℕ → List ℕ → Outcome Held
 receive_of x words marks store m = next (usable x words (length marks)) (λ q _. receive_with q x words marks store m)
 
--- a refusal hands back the end that came in
-abbrev pub refused_by : End → ℕ → ℕ → Received
-refused_by x n p = record { verdict = Refused n p; end = x }
-
--- what the function answers, by where an outcome has its end; what was lent, afterwards
-unfoldable pub shown_received : {A : Type 0} → (A → End) → End → Outcome A → Received
-shown_received end x o = record { verdict = verdict_of o; end = leaves end x o }
-
+-- what was lent, afterwards
 abbrev pub received_marks : List ℕ → Outcome Held → List ℕ
 received_marks marks o = leaves (λ (h : Held). h.marks) marks o
 

@@ -9,31 +9,28 @@ ghost use Rattle.station.specs.Making.{send_tests, values_with, make_values_of, 
 
 use contents::envelope::Envelope;
 use ends::ends::End;
-use ends::reducing::Missing;
-use fields::puts::Written;
-use fields::refusals;
-use ground::Verdict;
+use ground::refusals::{Reason, Refusal};
 use papers::checks::Papers;
 use papers::programs::Program;
 
-// 14, 12: a message is ours, and none of the steps of its relation below n is missing.
-fn judge_sending(program: Program, applied: [u32; 8], ours: bool, relation: u8, n: usize) -> Verdict
+// 14, 12: a message is ours, which is a fact and chooses no step, and none of the steps of its relation below n is missing.
+fn judge_sending(
+    program: Program,
+    applied: [u32; 8],
+    ours: bool,
+    relation: u8,
+    n: usize,
+) -> Result<(), Refusal>
     ensures { result ≡ judgement (send_tests program applied ours relation n) }
 {
     if !ours {
-        return Verdict::Refused {
-            number: refusals::NOT_OURS,
-            position: 0,
-        };
+        return Err(Reason::NotOurs.at(0));
     }
     let done = ends::ends::applied_of(applied, relation);
     let missing = ends::reducing::missing_of(program, relation, done, n);
     match missing {
-        Missing::First(step) => Verdict::Refused {
-            number: refusals::WAITING,
-            position: step,
-        },
-        Missing::None => Verdict::Taken,
+        Some(step) => Err(Reason::Waiting.at(step)),
+        None => Ok(()),
     }
 }
 
@@ -55,38 +52,24 @@ fn values_with(
     marks: &[u8],
     step: u32,
     message: &mut [u32],
-) -> Written
+) -> Result<usize, Refusal>
     requires { Usable papers tables.now (length marks.now) }
     ensures { (result ≡ written_of (values_with papers end tables.now marks.now step (length message.old))) × (message.new ≡ written_in message.old (values_with papers end tables.now marks.now step (length message.old))) }
 {
-    let envelope = papers.envelope;
-    let program = papers.program;
-    let applied = end.applied;
     let n = step as usize;
-    let named = ends::reducing::step_of(program, n);
-    let right = named.right;
-    let ours = sends_step(envelope, program, end.site, n, right.relation);
-    let verdict = judge_sending(program, applied, ours, right.relation, n);
-    match verdict {
-        Verdict::Refused { number, position } => Written::Refused { number, position },
-        Verdict::Taken => {
-            let gathered = tables::values::values_into(
-                envelope,
-                right,
-                tables,
-                marks,
-                ends::messages::FRONT,
-                message,
-            );
-            match gathered {
-                Written::Refused { number, position } => Written::Refused { number, position },
-                Written::Length(count) => {
-                    ends::messages::put_front(message, end.run, step, count as u32);
-                    Written::Length(ends::messages::FRONT + count)
-                }
-            }
-        }
-    }
+    let right = ends::reducing::step_of(papers.program, n).right;
+    let ours = sends_step(papers.envelope, papers.program, end.site, n, right.relation);
+    judge_sending(papers.program, end.applied, ours, right.relation, n)?;
+    let count = tables::values::values_into(
+        papers.envelope,
+        right,
+        tables,
+        marks,
+        ends::messages::FRONT,
+        message,
+    )?;
+    ends::messages::put_front(message, end.run, step, count as u32);
+    Ok(ends::messages::FRONT + count)
 }
 
 // The value message of a step: the end's papers and counts, 10, 11 (marks), 14, 12, 11 (message).
@@ -96,18 +79,11 @@ pub fn make_values(
     marks: &[u8],
     step: u32,
     message: &mut [u32],
-) -> Written
+) -> Result<usize, Refusal>
     ensures { (result ≡ written_of (make_values_of end tables.now marks.now step (length message.old))) × (message.new ≡ written_in message.old (make_values_of end tables.now marks.now step (length message.old))) }
 {
-    let read = ends::ends::usable_end(end, tables, marks.len());
-    let verdict = read.verdict;
-    match verdict {
-        Verdict::Refused { number, position } => Written::Refused { number, position },
-        Verdict::Taken => {
-            let papers = read.papers;
-            values_with(papers, end, tables, marks, step, message)
-        }
-    }
+    let papers = ends::ends::usable_end(end, tables, marks.len())?;
+    values_with(papers, end, tables, marks, step, message)
 }
 
 // With a usable end: 14, 12, 11.
@@ -118,48 +94,30 @@ fn rows_with(
     marks: &[u8],
     relation: u32,
     message: &mut [u32],
-) -> Written
+) -> Result<usize, Refusal>
     requires { Usable papers tables.now (length marks.now) }
     ensures { (result ≡ written_of (rows_with papers end tables.now marks.now relation (length message.old))) × (message.new ≡ written_in message.old (rows_with papers end tables.now marks.now relation (length message.old))) }
 {
-    let envelope = papers.envelope;
-    let program = papers.program;
-    let applied = end.applied;
     if 7 < relation {
-        return Written::Refused {
-            number: refusals::NOT_OURS,
-            position: 0,
-        };
+        return Err(Reason::NotOurs.at(0));
     }
     let own = relation as u8;
-    let ours = contents::sites::is_at(envelope, end.site, own);
-    let steps = ends::reducing::step_count(program);
-    let verdict = judge_sending(program, applied, ours, own, steps as usize);
-    match verdict {
-        Verdict::Refused { number, position } => Written::Refused { number, position },
-        Verdict::Taken => {
-            crate::rows::put_row_message(envelope, end.run, own, tables, marks, message)
-        }
-    }
+    let ours = contents::sites::is_at(papers.envelope, end.site, own);
+    let steps = ends::reducing::step_count(papers.program);
+    judge_sending(papers.program, end.applied, ours, own, steps as usize)?;
+    crate::rows::put_row_message(papers.envelope, end.run, own, tables, marks, message)
 }
 
-// The row message of a relation: the end's papers and counts, 10, 11 (marks), 14, 12, 11 (message).
+// The row message of a relation: the end's papers and counts, 10, 11 (marks), 14, 12, 11 (message). It is a `?` and a call, as that of values is.
 pub fn make_rows(
     end: End,
     tables: &[u32],
     marks: &[u8],
     relation: u32,
     message: &mut [u32],
-) -> Written
+) -> Result<usize, Refusal>
     ensures { (result ≡ written_of (make_rows_of end tables.now marks.now relation (length message.old))) × (message.new ≡ written_in message.old (make_rows_of end tables.now marks.now relation (length message.old))) }
 {
-    let read = ends::ends::usable_end(end, tables, marks.len());
-    let verdict = read.verdict;
-    match verdict {
-        Verdict::Refused { number, position } => Written::Refused { number, position },
-        Verdict::Taken => {
-            let papers = read.papers;
-            rows_with(papers, end, tables, marks, relation, message)
-        }
-    }
+    let papers = ends::ends::usable_end(end, tables, marks.len())?;
+    rows_with(papers, end, tables, marks, relation, message)
 }

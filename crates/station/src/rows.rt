@@ -1,5 +1,5 @@
 // The rows of a row message: the kept columns of a relation's kept rows, each row read once.
-ghost use Rattle.std.specs.Prelude.{◌≡◌, true, map, ◌+◌, ◌*◌, ◌≤◌, ◌<◌, length, take};
+ghost use Rattle.std.specs.Prelude.{◌≡◌, true, map, ◌+◌, ◌*◌, ◌≤◌, ◌<◌, length};
 ghost use Rattle.std.proofs.lemmas.List.Edits.{sets};
 ghost use Rattle.ground.specs.Lists.{filter, below, each};
 ghost use Rattle.fields.specs.Puts.{fitted, written_of, written_in};
@@ -11,8 +11,7 @@ ghost use Rattle.ends.specs.Messages.{front_length, row_message};
 ghost use Rattle.station.specs.Making.{sent_rows};
 
 use contents::envelope::Envelope;
-use fields::puts::Written;
-use fields::refusals;
+use ground::refusals::{Reason, Refusal};
 use tables::offsets::Extent;
 
 // How many rows are kept.
@@ -20,12 +19,10 @@ fn count_kept(marks: &[u8], extent: Extent) -> usize
     ensures { result ≡ length (filter (kept_over extent marks.now) (below extent.rows)) }
 {
     let mut n: usize = 0;
-    let mut row: usize = 0;
-    while row < extent.rows {
+    for row in 0..extent.rows {
         if tables::rows::is_kept(marks, extent, row) {
             n += 1;
         }
-        row += 1;
     }
     n
 }
@@ -35,47 +32,30 @@ fn put_row(
     tables: &[u32],
     extent: Extent,
     row: usize,
-    numbers: [u8; 8],
-    count: u8,
+    columns: &[u8],
     at: usize,
     message: &mut [u32],
 )
-    requires { at + length (take count numbers) ≤ length message.old }
-    ensures { message.new ≡ sets message.old at (map (word_over extent tables.now row) (take count numbers)) }
+    requires { at + length columns.now ≤ length message.old }
+    ensures { message.new ≡ sets message.old at (map (word_over extent tables.now row) columns.now) }
 {
-    let end = ground::used::in_use(8, count);
-    let mut i: usize = 0;
-    let mut p = at;
-    while i < end {
-        let column = numbers[i];
-        message[p] = tables::rows::word_at(tables, extent, row, column);
-        p += 1;
-        i += 1;
+    for (i, column) in columns.iter().enumerate() {
+        message[at + i] = tables::rows::word_at(tables, extent, row, *column);
     }
 }
 
 // The words of every kept row, behind the three in front.
-fn put_rows(
-    tables: &[u32],
-    marks: &[u8],
-    extent: Extent,
-    numbers: [u8; 8],
-    count: u8,
-    message: &mut [u32],
-)
-    requires { front_length + length (filter (kept_over extent marks.now) (below extent.rows)) * length (take count numbers) ≤ length message.old }
-    ensures { message.new ≡ sets message.old front_length (each (λ i. map (word_over extent tables.now i) (take count numbers)) (filter (kept_over extent marks.now) (below extent.rows))) }
+fn put_rows(tables: &[u32], marks: &[u8], extent: Extent, columns: &[u8], message: &mut [u32])
+    requires { front_length + length (filter (kept_over extent marks.now) (below extent.rows)) * length columns.now ≤ length message.old }
+    ensures { message.new ≡ sets message.old front_length (each (λ i. map (word_over extent tables.now i) columns.now) (filter (kept_over extent marks.now) (below extent.rows))) }
 {
-    let width = ground::used::in_use(8, count);
     let mut at: usize = ends::messages::FRONT;
-    let mut row: usize = 0;
-    while row < extent.rows {
+    for row in 0..extent.rows {
         let kept = tables::rows::is_kept(marks, extent, row);
         if kept {
-            put_row(tables, extent, row, numbers, count, at, message);
-            at += width;
+            put_row(tables, extent, row, columns, at, message);
+            at += columns.len();
         }
-        row += 1;
     }
 }
 
@@ -87,21 +67,17 @@ pub(crate) fn put_row_message(
     tables: &[u32],
     marks: &[u8],
     message: &mut [u32],
-) -> Written
+) -> Result<usize, Refusal>
     requires { (shaped envelope tables.now ≡ true) × (row_count envelope tables.now ≤ length marks.now) × (relation < relation_count envelope) }
     ensures { (result ≡ written_of (fitted (length message.old) (row_message run relation (sent_rows envelope tables.now marks.now relation)))) × (message.new ≡ written_in message.old (fitted (length message.old) (row_message run relation (sent_rows envelope tables.now marks.now relation)))) }
 {
     let extent = tables::offsets::extent_of(envelope, tables, relation);
-    let columns = contents::kept::kept_columns(envelope, relation);
-    let numbers = columns.numbers;
+    let kept = contents::kept::kept_columns(envelope, relation);
+    let columns = kept.in_use();
     let count = count_kept(marks, extent);
-    let width = ground::used::in_use(8, columns.count);
-    let length = ends::messages::FRONT + count * width;
+    let length = ends::messages::FRONT + count * columns.len();
     if message.len() < length {
-        return Written::Refused {
-            number: refusals::TOO_SHORT,
-            position: 0,
-        };
+        return Err(Reason::TooShort.at(0));
     }
     ends::messages::put_front(
         message,
@@ -109,6 +85,6 @@ pub(crate) fn put_row_message(
         ends::messages::ROWS_FROM + relation as u32,
         count as u32,
     );
-    put_rows(tables, marks, extent, numbers, columns.count, message);
-    Written::Length(length)
+    put_rows(tables, marks, extent, columns, message);
+    Ok(length)
 }

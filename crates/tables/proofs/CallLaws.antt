@@ -13,7 +13,7 @@ use Rattle.ground.specs.Outcome.Outcome.{good, bad}
 use Rattle.ground.specs.Refusing.{Test, test, judged}
 use Rattle.ground.proofs.RefusingLaws.{refusal_listed}
 use Rattle.ground.proofs.TestLaws.{and_left, and_right, and_both}
-use Rattle.fields.specs.Refusals.{wrong_shape, too_short, not_ours}
+use Rattle.ground.specs.declared.refusals.Reason.TheVariants.{WrongShape, TooShort, NotOurs}
 use Rattle.entries.specs.declared.places.Place.{Place}
 use Rattle.contents.specs.declared.envelope.Envelope.{Envelope}
 use Rattle.paths.specs.Steps.{is_place}
@@ -22,15 +22,16 @@ use Rattle.tables.specs.Shape.{shaped, marks_tests, column_tests}
 use Rattle.tables.specs.Rows.{word_of, kept_at}
 use Rattle.tables.specs.Values.{rising_values, occurs_in, room_test, values_outcome}
 use Rattle.tables.proofs.ValueLaws.{values_are}
+use Rattle.ground.specs.declared.refusals.Reason.{Reason}
 
 -- ---- a call that begins with 10, 11: of any tests and effect behind them
 
 module _ {A : Type 0} (e : Envelope) (words : List ℕ) (n : ℕ) (ts : List Test) (o : Outcome A) where
-  pub first_shape : shaped e words ≡ false → judged (marks_tests e words n ++ ts) o ≡ bad wrong_shape 0
+  pub first_shape : shaped e words ≡ false → judged (marks_tests e words n ++ ts) o ≡ bad WrongShape 0
   first_shape s = rw s
 
   module _ (s : shaped e words ≡ true) where
-    pub then_marks : n < row_count e words → judged (marks_tests e words n ++ ts) o ≡ bad too_short 0
+    pub then_marks : n < row_count e words → judged (marks_tests e words n ++ ts) o ≡ bad TooShort 0
     then_marks h = rw (s, lt-ltb n (row_count e words) h)
 
     pub then_rest : row_count e words ≤ n → judged (marks_tests e words n ++ ts) o ≡ judged ts o
@@ -43,11 +44,11 @@ module _ (e : Envelope) (a : Place) (words marks : List ℕ) (start room : ℕ) 
   found = rising_values e words marks a
 
   abbrev values_tests : List Test
-  values_tests = test (not (is_place e a)) not_ours 0 ∷ room_test start room (rising_values e words marks a) ∷ []
+  values_tests = test (not (is_place e a)) NotOurs 0 ∷ room_test start room (rising_values e words marks a) ∷ []
 
   -- it refuses by 10, 11, 14, at 0
-  pub values_number : (n p : ℕ) → values_outcome e words marks a start room ≡ bad n p
-      → Memᴰ n (wrong_shape ∷ too_short ∷ not_ours ∷ too_short ∷ []) × (p ≡ 0)
+  pub values_number : (n : Reason) (p : ℕ) → values_outcome e words marks a start room ≡ bad n p
+      → Memᴰ n (WrongShape ∷ TooShort ∷ NotOurs ∷ TooShort ∷ []) × (p ≡ 0)
   unfolding values_outcome
   values_number n p h =
       refusal_listed (column_tests e a words (length marks) ++ room_test start room found ∷ []) found 0 n p (refl, (refl, (refl, (refl, tt)))) h
@@ -56,7 +57,7 @@ module _ (e : Envelope) (a : Place) (words marks : List ℕ) (start room : ℕ) 
     module _ (h : row_count e words ≤ length marks) where
       module _ (c : is_place e a ≡ true) where
         pub values_narrow : room < start + length (rising_values e words marks a)
-            → values_outcome e words marks a start room ≡ bad too_short 0
+            → values_outcome e words marks a start room ≡ bad TooShort 0
         unfolding values_outcome
         values_narrow k =
             then_rest e words (length marks) values_tests (good found 0) s h ∙ rw (c, lt-ltb room (start + length found) k)

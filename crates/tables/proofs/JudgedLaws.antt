@@ -6,18 +6,19 @@ use mathlib.Core.Logic.{◌↔◌}
 use Prim.Native.Nat.{ℕ, ◌≤◌, ◌<◌}
 use native.Mathlib.Omega.{arith}
 use borrow.Author.Tests.{ltb-false, lt-ltb, le-ltb, not-true, not-false}
-use Rattle.ground.specs.Outcome.{verdict_of}
+use Rattle.ground.specs.Outcome.{Verdict, verdict_of}
 use Rattle.ground.specs.Outcome.Outcome.{good}
 use Rattle.ground.specs.Refusing.{Test, test, judged, judgement}
-use Rattle.ground.specs.declared.Verdict.{Verdict}
-use Rattle.ground.specs.declared.Verdict.TheVariants.{Taken, Refused}
 use Rattle.ground.proofs.RefusingLaws.{some_fail, judge_refused, judge_passed, judge_taken, each_passes}
-use Rattle.fields.specs.Refusals.{wrong_shape, too_short, not_ours}
+use Rattle.ground.specs.declared.refusals.Reason.TheVariants.{WrongShape, TooShort, NotOurs}
 use Rattle.entries.specs.declared.places.Place.{Place}
 use Rattle.contents.specs.declared.envelope.Envelope.{Envelope}
 use Rattle.paths.specs.Steps.{is_place}
 use Rattle.tables.specs.Offsets.{row_count}
 use Rattle.tables.specs.Shape.{shaped, marks_tests, column_tests}
+use Rattle.ground.specs.declared.refusals.Refusal.{Refusal}
+use Rattle.ground.specs.Refusals.{refusal}
+use Rattle.std.specs.Prelude.{Ok, Err}
 
 -- ---- tables, marks and a column that pass their tests
 
@@ -38,7 +39,7 @@ module _ (e : Envelope) (words : List ℕ) (n : ℕ) where
   )
 
   -- each by itself, of a verdict that was taken
-  module _ (v : Verdict) (h : v ≡ Taken) where
+  module _ (v : Verdict) (h : v ≡ Ok tt) where
     module _ (g : v ≡ judgement (marks_tests e words n)) where
       pub marks_shaped : shaped e words ≡ true
       marks_shaped = (marks_pass.0 (judge_passed (marks_tests e words n) v g h)).0
@@ -59,18 +60,18 @@ module _ (e : Envelope) (words : List ℕ) (n : ℕ) where
 -- ---- what the functions that judge answer
 
 module _ (e : Envelope) (words : List ℕ) (n : ℕ) (b : Bool) (f : b ≡ shaped e words) where
-  pub judge_shapeless : not b ≡ true → Refused wrong_shape 0 ≡ judgement (marks_tests e words n)
+  pub judge_shapeless : not b ≡ true → Err (refusal WrongShape 0) ≡ judgement (marks_tests e words n)
   unfolding judgement verdict_of
   judge_shapeless t = rw (← f, not-true b t)
 
   module _ (m : ℕ) (g : m ≡ row_count e words) (s : not b ≡ false) where
-    pub judge_short : n < m → Refused too_short 0 ≡ judgement (marks_tests e words n)
+    pub judge_short : n < m → Err (refusal TooShort 0) ≡ judgement (marks_tests e words n)
     unfolding judgement verdict_of
     judge_short h =
         let k : n < row_count e words = omega arith in
         rw (← f, not-false b s, lt-ltb n (row_count e words) k)
 
-    pub judge_whole : m ≤ n → Taken ≡ judgement (marks_tests e words n)
+    pub judge_whole : m ≤ n → Ok tt ≡ judgement (marks_tests e words n)
     unfolding judgement verdict_of
     judge_whole h =
         let k : row_count e words ≤ n = omega arith in
@@ -78,21 +79,21 @@ module _ (e : Envelope) (words : List ℕ) (n : ℕ) (b : Bool) (f : b ≡ shape
 
 module _ (e : Envelope) (a : Place) (words : List ℕ) (n : ℕ) (v : Verdict) (g : v ≡ judgement (marks_tests e words n)) where
   abbrev column_test : Test
-  column_test = test (not (is_place e a)) not_ours 0
+  column_test = test (not (is_place e a)) NotOurs 0
 
-  pub judge_before : (m q : ℕ) → v ≡ Refused m q → Refused m q ≡ judgement (column_tests e a words n)
+  pub judge_before : (x : Refusal) → v ≡ Err x → Err x ≡ judgement (column_tests e a words n)
   unfolding judgement verdict_of
-  judge_before m q h = sym (ap verdict_of (judge_refused (marks_tests e words n) v g (judged (column_test ∷ []) (good (tt {0}) 0)) m q h))
+  judge_before x h = sym (ap verdict_of (judge_refused (marks_tests e words n) v g (judged (column_test ∷ []) (good (tt {0}) 0)) x.reason x.position h))
 
-  module _ (h : v ≡ Taken) (b : Bool) (f : b ≡ is_place e a) where
+  module _ (h : v ≡ Ok tt) (b : Bool) (f : b ≡ is_place e a) where
     passed : judgement (column_tests e a words n) ≡ judgement (column_test ∷ [])
     unfolding judgement verdict_of
     passed = ap verdict_of (judge_taken (marks_tests e words n) v g (judged (column_test ∷ []) (good (tt {0}) 0)) h)
 
-    pub judge_nowhere : not b ≡ true → Refused not_ours 0 ≡ judgement (column_tests e a words n)
+    pub judge_nowhere : not b ≡ true → Err (refusal NotOurs 0) ≡ judgement (column_tests e a words n)
     unfolding judgement verdict_of
     judge_nowhere t = sym (passed ∙ rw (← f, not-true b t))
 
-    pub judge_column : not b ≡ false → Taken ≡ judgement (column_tests e a words n)
+    pub judge_column : not b ≡ false → Ok tt ≡ judgement (column_tests e a words n)
     unfolding judgement verdict_of
     judge_column t = sym (passed ∙ rw (← f, not-false b t))

@@ -1,12 +1,18 @@
 -- What each return of the functions on row counts, extents and shape answers.
-use mathlib.Core.Path.{◌≡◌, sym, ap, ◌∙◌}
-use mathlib.Core.Bool.{true, false}
+use mathlib.Core.Path.{◌≡◌, refl, sym, ap, ◌∙◌}
+use mathlib.Core.Bool.{Bool, false}
 use mathlib.Core.List.{List}
+use mathlib.Core.Logic.{◌⊎◌, inl, inr}
 use Prim.Native.Nat.{ℕ, ◌+◌, ◌*◌, ◌≤◌, ◌<◌, min}
-use native.Mathlib.Nat.{mul-le-mul_left, min-le_right}
+use native.Mathlib.Nat.{mul-le-mul_left}
 use native.Mathlib.Omega.{arith}
-use lib.ListN.{length, get_or, take, length-take, get_or-eq_default}
-use Rattle.ground.proofs.TestLaws.{not_holds}
+use lib.ListN.{length, get_or, take, length-take}
+use lib.Seq.{get_or-take, length-take-le}
+use lib.Dec.{leb}
+use borrow.Author.Tests.{leb-true, le-leb}
+use Rattle.std.specs.List.{list_all}
+use Rattle.std.proofs.lemmas.List.Recursion.{and_at, and_from_places}
+use Rattle.ground.proofs.TestLaws.{not_holds, same_test}
 use Rattle.ground.proofs.CountLaws.{split}
 use Rattle.contents.specs.Parts.{relation_count, columns_in}
 use Rattle.contents.specs.declared.envelope.Envelope.{Envelope}
@@ -24,30 +30,13 @@ words_most n k h l = let m : n * k ≤ n * 8 = mul-le-mul_left n l in omega arit
 pub words_fit_in : (e : Envelope) (i rows columns : ℕ) → columns ≡ columns_in e i → rows < 4294967296 → rows * columns ≤ 34359738368
 words_fit_in e i rows columns g h = words_most rows columns h (omega (arith, columns_few e i))
 
--- the first so many counts are within their size
-pub record Few (words : List ℕ) (i : ℕ) : Type 0 where
-  pub each : (r : ℕ) → r < i → get_or words r 0 ≤ 4096
-
-pub few_start : (words : List ℕ) → Few words 0
-few_start words = record { each = λ r h. absurd (omega arith) }
-
-pub few_more : (words : List ℕ) (i : ℕ) → Few words i → get_or words i 0 ≤ 4096 → Few words (i + 1)
-few_more words i g h =
-    record {
-      each = λ r k. split i r (λ l. let e : r ≡ i = omega arith in rw e h) (λ l. g.each r l);
-    }
-
 module _ (e : Envelope) (words : List ℕ) where
   module _ (r n : ℕ) (g : n ≡ min 8 e.relation_count) where
     pub count_none : n ≤ r → 0 ≡ count_in e words r
     count_none h = sym (count_outside e words r (omega arith))
 
-    pub count_is : r < n → get_or words r 0 ≡ count_in e words r
-    count_is h = sym (count_inside e words r (omega arith))
-
-  pub count_short : (r : ℕ) → length words ≤ r → 0 ≡ count_in e words r
-  unfolding count_in
-  count_short r h = sym (get_or-eq_default (take (relation_count e) words) 0 (omega (arith, length-take (relation_count e) words, min-le_right (relation_count e) (length words))))
+    pub count_is : r < n → (m : ℕ) → m ≡ get_or words r 0 → m ≡ count_in e words r
+    count_is h m f = f ∙ sym (count_inside e words r (omega arith))
 
   -- the loop that adds up: what it has at relation i
   abbrev pub Adding : ℕ → ℕ → ℕ → Type 0
@@ -67,19 +56,12 @@ module _ (e : Envelope) (words : List ℕ) where
         omega (arith, a.3),
       )
 
-  pub extent_is : (r word mark columns rows i : ℕ) → Adding i word mark → i ≤ r → r ≤ i → columns ≡ columns_in e r → rows ≡ count_in e words r
-      → ◌≡◌ {A = Extent} (record { columns = columns; rows = rows; word = word; mark = mark }) (extent_of e words r)
-  extent_is r word mark columns rows i a h k g f =
-      let s : i ≡ r = omega arith in
-      rw (g, f, ← s, a.0, a.1)
-
   -- ---- shape
 
-  pub shape_short : (n : ℕ) → n ≡ min 8 e.relation_count → length words < n → false ≡ shaped e words
-  shape_short n g h = sym (not_holds (shaped e words) λ t. omega (arith, shape_counted e words (shaped_shape e words t)))
-
-  pub shape_long : 16384 < length words → false ≡ shaped e words
-  shape_long h = sym (not_holds (shaped e words) λ t. omega (arith, (shaped_shape e words t).within))
+  pub shape_beyond : (n : ℕ) → n ≡ min 8 e.relation_count → (length words < n) ⊎ ((n ≤ length words) × (16384 < length words))
+      → false ≡ shaped e words
+  shape_beyond n g (inl h) = sym (not_holds (shaped e words) λ t. omega (arith, shape_counted e words (shaped_shape e words t)))
+  shape_beyond n g (inr (k, h)) = sym (not_holds (shaped e words) λ t. omega (arith, (shaped_shape e words t).within))
 
   module _ (n : ℕ) (x : Extent) (g : n ≡ min 8 e.relation_count) (f : x ≡ extent_of e words n) where
     ends : x.word ≡ first_word e words (relation_count e)
@@ -88,16 +70,28 @@ module _ (e : Envelope) (words : List ℕ) where
     pub shape_other : (x.word ≡ length words → ⊥) → false ≡ shaped e words
     shape_other h = sym (not_holds (shaped e words) λ t. h (ends ∙ sym (shaped_shape e words t).whole))
 
-    pub shape_over : (i : ℕ) → i < n → 4096 < get_or words i 0 → false ≡ shaped e words
-    shape_over i h k = sym (not_holds (shaped e words) λ t. omega (arith, (shaped_shape e words t).few i, count_is i n g h))
+    small : ℕ → Bool
+    small c = leb c 4096
 
-    pub shape_all : (i : ℕ) → n ≤ i → Few words i → n ≤ length words → length words ≤ 16384 → x.word ≡ length words
-        → true ≡ shaped e words
-    shape_all i h k l m w =
-        sym
-        (shape_shaped e words
+    pub shape_counts : n ≤ length words → length words ≤ 16384 → x.word ≡ length words → (b : Bool)
+        → b ≡ list_all (λ c. leb c 4096) (take n words) → b ≡ shaped e words
+    unfolding small
+    shape_counts l m w b q =
+        let long : (i : ℕ) → i < n → i < length (take n words) = λ i a. omega (arith, length-take n words) in
+        let count : (i : ℕ) → i < n → get_or (take n words) i 0 ≡ count_in e words i =
+        λ i a. get_or-take n words i 0 a ∙ count_is i n g a (get_or words i 0) refl in
+        q
+        ∙ same_test (list_all small (take n words)) (shaped e words)
+        (λ t.
+        shape_shaped e words
         (record {
-          few = λ r. split n r (λ a. omega (arith, count_none r n g a)) (λ a. omega (arith, count_is r n g a, k.each r (omega arith)));
+          few = λ r.
+              split n r (λ a. omega (arith, count_none r n g a))
+              (λ a. omega (arith, count r a, leb-true _ _ (and_at (list_all small) small refl (λ _ _. refl) (take n words) r 0 (long r a) t)));
           whole = sym w ∙ ends;
           within = m;
         }))
+        (λ t.
+        and_from_places (list_all small) small refl (λ _ _. refl) (take n words) 0 λ i h.
+        let a : i < n = omega (arith, length-take-le n words) in
+        le-leb _ _ (omega (arith, count i a, (shaped_shape e words t).few i)))

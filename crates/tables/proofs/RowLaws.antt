@@ -5,7 +5,7 @@ use mathlib.Core.List.Memᴰ
 use mathlib.Core.List.{List, [], ◌∷◌, map, Memᴰ}
 use mathlib.Core.Logic.{◌⊎◌, inl, inr}
 use Prim.Native.Nat.{ℕ, zero, suc, ◌+◌, ◌*◌, ◌≤◌, ◌<◌, zero-le, suc-le-suc}
-use native.Mathlib.Nat.{le_of_suc-le-suc, not-suc-le-zero, zero-add, add-zero, mul-le-mul_right, suc-mul}
+use native.Mathlib.Nat.{le_of_suc-le-suc, not-suc-le-zero, zero-add, add-zero}
 use native.Mathlib.Omega.{arith}
 use lib.ListN.{length, get_or, take, drop}
 use lib.Seq.{drop-drop, get_or-take, get_or-drop}
@@ -42,11 +42,6 @@ module _ (x : Extent) where
       (rows_at_lem x.columns x.rows (drop x.word words) i h ∙ ap (take x.columns) (drop-drop (i * x.columns) x.word words))
       ∙ get_or-take x.columns (drop (x.word + i * x.columns) words) c 0 k
       ∙ get_or-drop (x.word + i * x.columns) words c 0)
-
-  pub row_below : (i : ℕ) → i < x.rows → i * x.columns + x.columns ≤ x.rows * x.columns
-  row_below i h =
-      let m : suc i * x.columns ≤ x.rows * x.columns = mul-le-mul_right x.columns h in
-      omega (arith, suc-mul i x.columns)
 
   pub mark_over : (marks : List ℕ) (i : ℕ) → i < x.rows → get_or marks (x.mark + i) 0 ≡ get_or (marks_over x marks) i 0
   unfolding marks_over

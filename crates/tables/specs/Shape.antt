@@ -3,7 +3,7 @@
 use Rattle.std.specs.Prelude.{ℕ, Bool, ◌&&◌, not, List, [], ◌∷◌, ◌++◌, length, nat_eq, nat_le, nat_lt}
 use Rattle.ground.specs.Lists.{all, below}
 use Rattle.ground.specs.Refusing.{Test, test}
-use Rattle.fields.specs.Refusals.{wrong_shape, too_short, not_ours}
+use Rattle.ground.specs.declared.refusals.Reason.TheVariants.{WrongShape, TooShort, NotOurs}
 use Rattle.contents.specs.Parts.{relation_count}
 use Rattle.entries.specs.declared.places.Place.{Place}
 use Rattle.contents.specs.declared.envelope.Envelope.{Envelope}
@@ -21,10 +21,10 @@ shaped e words =
 
 -- 10: the shape; 11: so many marks, one for each row at least
 abbrev pub shape_test : Envelope → List ℕ → Test
-shape_test e words = test (not (shaped e words)) wrong_shape 0
+shape_test e words = test (not (shaped e words)) WrongShape 0
 
 abbrev pub mark_count_test : Envelope → List ℕ → ℕ → Test
-mark_count_test e words n = test (nat_lt n (row_count e words)) too_short 0
+mark_count_test e words n = test (nat_lt n (row_count e words)) TooShort 0
 
 -- 10, 11: both
 abbrev pub marks_tests : Envelope → List ℕ → ℕ → List Test
@@ -32,4 +32,4 @@ marks_tests e words n = shape_test e words ∷ mark_count_test e words n ∷ []
 
 -- 10, 11, 14: these, and the envelope has the column
 abbrev pub column_tests : Envelope → Place → List ℕ → ℕ → List Test
-column_tests e a words n = marks_tests e words n ++ test (not (is_place e a)) not_ours 0 ∷ []
+column_tests e a words n = marks_tests e words n ++ test (not (is_place e a)) NotOurs 0 ∷ []

@@ -21,10 +21,7 @@ pub fn count_in(envelope: Envelope, tables: &[u32], relation: u8) -> u32
     if ground::used::in_use(8, envelope.relation_count) <= i {
         return 0;
     }
-    if tables.len() <= i {
-        return 0;
-    }
-    tables[i]
+    tables.get(i).copied().unwrap_or(0)
 }
 
 // Where a relation lies; behind the last row where there is no such relation.
@@ -33,21 +30,19 @@ pub fn extent_of(envelope: Envelope, tables: &[u32], relation: u8) -> Extent
 {
     let mut word = ground::used::in_use(8, envelope.relation_count);
     let mut mark: usize = 0;
-    let mut i: u8 = 0;
-    while i < relation {
+    for i in 0..relation {
         let columns = contents::parts::columns_in(envelope, i);
         let rows = count_in(envelope, tables, i);
         word += rows as usize * columns as usize;
         mark += rows as usize;
-        i += 1;
     }
     let columns = contents::parts::columns_in(envelope, relation);
     let rows = count_in(envelope, tables, relation);
     Extent {
         columns: columns as usize,
         rows: rows as usize,
-        word: word,
-        mark: mark,
+        word,
+        mark,
     }
 }
 

@@ -1,46 +1,23 @@
-// One row of a relation that lies in words and marks: its word in a column, and whether it is kept. word_at and is_kept are for
-// any extent; the others know that it lies within.
-ghost use Rattle.std.specs.Prelude.{◌≡◌, ◌+◌, ◌*◌, ◌<◌, ◌≤◌, length};
+// One row of a relation that lies in words and marks, for any extent: its word in a column, and whether it is kept.
+ghost use Rattle.std.specs.Prelude.{◌≡◌};
 ghost use Rattle.tables.specs.Rows.{word_over, kept_over};
 
 use crate::offsets::Extent;
-
-pub(crate) fn word_in(tables: &[u32], extent: Extent, row: usize, column: u8) -> u32
-    requires { (row < extent.rows) × (column < extent.columns) × (extent.word + extent.rows * extent.columns ≤ length tables.now) }
-    ensures { result ≡ word_over extent tables.now row column }
-{
-    tables[extent.word + row * extent.columns + column as usize]
-}
-
-pub(crate) fn kept_at(marks: &[u8], extent: Extent, row: usize) -> bool
-    requires { (row < extent.rows) × (extent.mark + extent.rows ≤ length marks.now) }
-    ensures { result ≡ kept_over extent marks.now row }
-{
-    marks[extent.mark + row] != 0
-}
 
 // The word of a row in a column: 0 where there is no such row or column, or the words end before it.
 pub fn word_at(tables: &[u32], extent: Extent, row: usize, column: u8) -> u32
     ensures { result ≡ word_over extent tables.now row column }
 {
-    let wide = column as usize;
-    if extent.rows <= row {
+    let column = column as usize;
+    if extent.rows <= row || extent.columns <= column {
         return 0;
     }
-    if extent.columns <= wide {
+    let Some(words) = tables.get(extent.word..) else {
         return 0;
-    }
-    if tables.len() <= extent.word {
-        return 0;
-    }
-    let left = tables.len() - extent.word;
-    if left <= wide {
-        return 0;
-    }
-    if (left - 1 - wide) / extent.columns < row {
-        return 0;
-    }
-    tables[extent.word + row * extent.columns + wide]
+    };
+    // No slice goes as far as the greatest number, where a product or a sum that is too large ends.
+    let at = row.saturating_mul(extent.columns).saturating_add(column);
+    words.get(at).copied().unwrap_or(0)
 }
 
 // Whether a row is kept: not where there is no such row, or the marks end before it.
@@ -50,12 +27,9 @@ pub fn is_kept(marks: &[u8], extent: Extent, row: usize) -> bool
     if extent.rows <= row {
         return false;
     }
-    if marks.len() <= extent.mark {
+    let Some(marks) = marks.get(extent.mark..) else {
         return false;
-    }
-    if marks.len() - extent.mark <= row {
-        return false;
-    }
-    let mark = marks[extent.mark + row];
+    };
+    let mark = marks.get(row).copied().unwrap_or(0);
     mark != 0
 }

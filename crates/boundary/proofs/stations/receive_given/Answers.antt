@@ -1,13 +1,12 @@
+use Rattle.ground.proofs.OutcomeLaws.{exits}
 use Rattle.boundary.proofs.StationCodeLaws.{receive_long, receive_refused, receive_taken}
 use Rattle.boundary.proofs.stations.receive_given.Goals as goal
 
 pub returns-then-store-gt4294967295 : goal.returns-then-store-gt4294967295
-returns-then-store-gt4294967295 c = receive_long _ _ _ _ _ _ c.if-store-gt4294967295.true
+returns-then-store-gt4294967295 c = rw c.at.ensures (receive_long _ _ _ _ _ _ c.if-store-gt4294967295.true)
 
-pub returns-in-Refused : goal.returns-in-Refused
-returns-in-Refused c =
-    receive_refused _ _ _ _ _ _ c.if-store-gt4294967295.false _ _ _ c.receive-received.ensures _ _ c.in-Refused.is
+pub returns-in_err-receive : goal.returns-in_err-receive
+returns-in_err-receive c = let w = receive_refused _ _ _ _ _ _ c.if-store-gt4294967295.false _ _ _ _ c.receive.ensures _ c.in_err-receive.was in (exits _ _ _ c.from_residual.ensures.1 w.0, w.1, w.2, w.3)
 
-pub returns-in-Taken : goal.returns-in-Taken
-returns-in-Taken c =
-    receive_taken _ _ _ _ _ _ c.if-store-gt4294967295.false _ _ _ c.receive-received.ensures c.in-Taken.is _ c.put_state.ensures
+pub returns : goal.returns
+returns c = receive_taken _ _ _ _ _ _ c.if-store-gt4294967295.false _ _ _ _ c.receive.ensures c.in_ok-receive.was _ c.put_state.ensures

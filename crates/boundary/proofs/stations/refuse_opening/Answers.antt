@@ -1,8 +1,9 @@
+use Rattle.ground.proofs.OutcomeLaws.{exits}
 use Rattle.boundary.proofs.OpeningCodeLaws.{refuse_same, refuse_short}
 use Rattle.boundary.proofs.stations.refuse_opening.Goals as goal
 
-pub returns-in-Refused : goal.returns-in-Refused
-returns-in-Refused c = refuse_same _ _ _ _ _ _ _ c.open-opened.ensures.0 _ _ c.in-Refused.is
+pub returns-in_err-open : goal.returns-in_err-open
+returns-in_err-open c = exits _ _ _ c.from_residual.ensures.1 (refuse_same _ _ _ _ _ _ _ c.open.ensures.0 _ c.in_err-open.was)
 
-pub returns-in-Taken : goal.returns-in-Taken
-returns-in-Taken c = refuse_short _ _ _ _ _ _ _ c.open-opened.ensures.0 c.in-Taken.is
+pub returns : goal.returns
+returns c = rw c.at.ensures (refuse_short _ _ _ _ _ _ _ c.open.ensures.0 _ c.in_ok-open.was)

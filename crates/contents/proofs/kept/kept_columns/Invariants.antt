@@ -1,9 +1,5 @@
-use Prim.Native.Nat.{◌-◌}
 use Rattle.contents.proofs.KeptCodeLaws.{Keeping}
 use Rattle.contents.proofs.kept.kept_columns.Given as goal
 
 abbrev pub invariant-loop-column : goal.invariant-loop-column
 invariant-loop-column l = Keeping l.envelope l.relation l.end l.column l.count l.numbers
-
-abbrev pub decreases-loop-column : goal.decreases-loop-column
-decreases-loop-column l = l.end - l.column

@@ -1,10 +1,6 @@
-use Prim.Native.Nat.{◌-◌}
 use Rattle.ground.proofs.SearchingLaws.{some_from, Looking}
 use Rattle.ends.specs.Ends.{over_at}
 use Rattle.ends.proofs.ends.is_over_applied.Given as goal
 
 abbrev pub invariant-loop-relation : goal.invariant-loop-relation
-invariant-loop-relation l = Looking some_from (over_at l.program l.applied) l.end l.relation
-
-abbrev pub decreases-loop-relation : goal.decreases-loop-relation
-decreases-loop-relation l = l.end - l.relation
+invariant-loop-relation l = Looking some_from (over_at l.program l.applied) l.relation-end l.relation

@@ -1,12 +1,12 @@
-use Rattle.entries.proofs.ClauseCodeLaws.{selection_1, selection_2, selection_3}
+use Rattle.entries.proofs.ClauseCodeLaws.{selection_no_place, selection_no_value, selection_is}
 use borrow.Author.Rules.{rules}
 use Rattle.entries.proofs.clauses.read_selection.Goals as goal
 
-pub returns-in-Not : goal.returns-in-Not
-returns-in-Not c = search (selection_1, rules)
+pub returns-in_err-place : goal.returns-in_err-place
+returns-in_err-place c = search (selection_no_place, rules)
 
-pub returns-in-Not-number_at : goal.returns-in-Not-number_at
-returns-in-Not-number_at c = search (selection_2, rules)
+pub returns-in_err-value : goal.returns-in_err-value
+returns-in_err-value c = search (selection_no_value, rules)
 
-pub returns-in-Is-number_at : goal.returns-in-Is-number_at
-returns-in-Is-number_at c = search (selection_3, rules)
+pub returns : goal.returns
+returns c = search (selection_is, rules)

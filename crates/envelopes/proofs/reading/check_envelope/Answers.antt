@@ -1,7 +1,7 @@
-use Rattle.envelopes.specs.Envelope.{envelope_bytes}
-use Rattle.fields.proofs.PutLaws.{fresh_bytes}
-use Rattle.envelopes.proofs.ReadingLaws.{check_is}
 use native.Mathlib.Omega.{arith}
+use Rattle.fields.proofs.PutLaws.{fresh_bytes}
+use Rattle.envelopes.specs.Envelope.{envelope_bytes}
+use Rattle.envelopes.proofs.ReadingLaws.{check_is}
 use Rattle.envelopes.proofs.reading.check_envelope.Goals as goal
 
 pub returns : goal.returns

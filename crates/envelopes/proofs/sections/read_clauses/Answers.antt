@@ -1,17 +1,17 @@
-use Rattle.fields.proofs.NumberLaws.{read_in}
-use Rattle.envelopes.proofs.EnvelopeLaws.{list_bad, list_good}
-use native.Mathlib.Omega.{arith}
 use borrow.Author.Rules.{rules}
+use Rattle.ground.proofs.OutcomeLaws.{exits}
+use Rattle.entries.specs.Clauses.{clause_at}
+use Rattle.contents.specs.Parts.{with_clauses}
+use Rattle.envelopes.proofs.EnvelopeLaws.{part_refused, part_is}
 use Rattle.envelopes.proofs.sections.read_clauses.Goals as goal
 
-pub overflow_cast-n : goal.overflow_cast-n
-overflow_cast-n c = omega (arith, read_in _ _ _ _ _ _ c.in-Is.is _ _ c.number_in.ensures)
+pub returns-in_err-clause_count : goal.returns-in_err-clause_count
+returns-in_err-clause_count c =
+    exits _ _ _ c.from_residual.ensures.1
+    (part_refused _ _ _ with_clauses (clause_at c.args.envelope.relation_count c.args.envelope.relations c.args.s.now) _ _ _ c.read_list.result (c.read_list.ensures (clause_at c.args.envelope.relation_count c.args.envelope.relations c.args.s.now) (λ p r b k. search rules)) _ c.in_err-clause_count.was)
 
-pub fill_clauses-requires : goal.fill_clauses-requires
-fill_clauses-requires c = omega (arith, read_in _ _ _ _ _ _ c.in-Is.is _ _ c.number_in.ensures)
-
-pub returns-in-Not : goal.returns-in-Not
-returns-in-Not c = search (list_bad, rules)
-
-pub returns-in-Is : goal.returns-in-Is
-returns-in-Is c = search (list_good, rules)
+pub returns : goal.returns
+unfolding with_clauses
+returns c =
+    part_is _ _ _ with_clauses (clause_at c.args.envelope.relation_count c.args.envelope.relations c.args.s.now) _ _ _ c.read_list.result (c.read_list.ensures (clause_at c.args.envelope.relation_count c.args.envelope.relations c.args.s.now) (λ p r b k. search rules)) _ _ _ _ c.in_ok-clause_count.was
+    (λ vs h k. simp (h, k, c.no_clause-empty.ensures))

@@ -1,17 +1,17 @@
-use Rattle.fields.proofs.NumberLaws.{read_in}
-use Rattle.envelopes.proofs.EnvelopeLaws.{list_bad, list_good}
-use native.Mathlib.Omega.{arith}
 use borrow.Author.Rules.{rules}
+use Rattle.ground.proofs.OutcomeLaws.{exits}
+use Rattle.entries.specs.Places.{place_at}
+use Rattle.contents.specs.Parts.{with_targets}
+use Rattle.envelopes.proofs.EnvelopeLaws.{part_refused, part_is}
 use Rattle.envelopes.proofs.sections.read_targets.Goals as goal
 
-pub overflow_cast-n : goal.overflow_cast-n
-overflow_cast-n c = omega (arith, read_in _ _ _ _ _ _ c.in-Is.is _ _ c.number_in.ensures)
+pub returns-in_err-target_count : goal.returns-in_err-target_count
+returns-in_err-target_count c =
+    exits _ _ _ c.from_residual.ensures.1
+    (part_refused _ _ _ with_targets (place_at c.args.envelope.relation_count c.args.envelope.relations c.args.s.now) _ _ _ c.read_list.result (c.read_list.ensures (place_at c.args.envelope.relation_count c.args.envelope.relations c.args.s.now) (λ p r b k. search rules)) _ c.in_err-target_count.was)
 
-pub fill_targets-requires : goal.fill_targets-requires
-fill_targets-requires c = omega (arith, read_in _ _ _ _ _ _ c.in-Is.is _ _ c.number_in.ensures)
-
-pub returns-in-Not : goal.returns-in-Not
-returns-in-Not c = search (list_bad, rules)
-
-pub returns-in-Is : goal.returns-in-Is
-returns-in-Is c = search (list_good, rules)
+pub returns : goal.returns
+unfolding with_targets
+returns c =
+    part_is _ _ _ with_targets (place_at c.args.envelope.relation_count c.args.envelope.relations c.args.s.now) _ _ _ c.read_list.result (c.read_list.ensures (place_at c.args.envelope.relation_count c.args.envelope.relations c.args.s.now) (λ p r b k. search rules)) _ _ _ _ c.in_ok-target_count.was
+    (λ vs h k. simp (h, k, c.no_place-empty.ensures))

@@ -1,13 +1,7 @@
-use Rattle.estimates.proofs.CostCodeLaws.{plain_whole}
-use Rattle.ground.proofs.NumberingLaws.{numbering_start, numbering_more}
 use borrow.Author.Rules.{rules}
+use Rattle.ground.proofs.MadeLaws.{made_is}
+use Rattle.estimates.proofs.CostCodeLaws.{plain_price, plain_whole}
 use Rattle.estimates.proofs.costs.plain_costs.Goals as goal
 
-pub loop-k-init : goal.loop-k-init
-loop-k-init c = search (numbering_start, rules)
-
-pub loop-k-preserved : goal.loop-k-preserved
-loop-k-preserved c = search (numbering_more, rules)
-
 pub returns : goal.returns
-returns c = search (plain_whole, rules)
+returns c = plain_whole _ (made_is _ plain_price _ 64 (λ i y q h k. search rules) _ c.from_fn.ensures.items)

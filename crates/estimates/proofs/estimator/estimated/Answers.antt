@@ -11,13 +11,13 @@ loop-i-init c = search (estimating_start, rules)
 
 pub line_of-line-requires : goal.line_of-line-requires
 line_of-line-requires c =
-    line_ready c.args.costs c.args.envelope c.args.local c.requires.0 _ _ _ _ _ _ c.loop-i.invariant c.loop-i-test.true
+    line_ready c.args.costs c.args.envelope c.args.local c.requires.0 _ _ _ _ _ c.loop-i.invariant c.loop-i-test.true
 
 pub overflow_add-spent : goal.overflow_add-spent
 overflow_add-spent c =
     omega (
       arith,
-      cost_few c.args.costs c.args.envelope c.args.local c.requires.0 _ _ _ _ _ c.loop-i.invariant.spending
+      cost_few c.args.costs c.args.envelope c.args.local c.requires.0 _ _ _ _ c.loop-i.invariant.spending
           c.loop-i-test.true _ (ap (λ (x : Line). x.cost) c.line_of-line.ensures),
     )
 
@@ -29,13 +29,13 @@ loop-i-preserved c = search (estimating_more, rules)
 
 pub assembly_at-assembly-requires : goal.assembly_at-assembly-requires
 assembly_at-assembly-requires c =
-    now_bounded c.args.costs c.args.envelope c.args.local c.requires.0 _ _ _ _ _ _ c.loop-i.invariant
+    now_bounded c.args.costs c.args.envelope c.args.local c.requires.0 _ _ _ _ _ c.loop-i.invariant
 
 pub overflow_add-result : goal.overflow_add-result
 overflow_add-result c =
     omega (
       arith,
-      assembly_small c.args.costs c.args.envelope c.args.local c.requires.0 _ _ _ _ _ _ c.loop-i.invariant _ _
+      assembly_small c.args.costs c.args.envelope c.args.local c.requires.0 _ _ _ _ _ c.loop-i.invariant _ _
           c.assembly_at-assembly.ensures,
     )
 

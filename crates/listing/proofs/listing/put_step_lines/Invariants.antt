@@ -1,10 +1,7 @@
 use Rattle.ground.proofs.WritingLaws.{Writing}
 use Rattle.listing.specs.Listing.{step_line}
-use Prim.Native.Nat.{◌-◌}
+use lib.ListN.{length}
 use Rattle.listing.proofs.listing.put_step_lines.Given as goal
 
-abbrev pub invariant-loop-i : goal.invariant-loop-i
-invariant-loop-i l = Writing step_line 126 l.lines l.initial.out l.at l.end l.i l.p l.out
-
-abbrev pub decreases-loop-i : goal.decreases-loop-i
-decreases-loop-i l = l.end - l.i
+abbrev pub invariant-loop-line : goal.invariant-loop-line
+invariant-loop-line l = Writing step_line 126 l.lines l.initial.out l.fn.at (length l.lines) l.line-index l.p l.out

@@ -1,10 +1,5 @@
 use Rattle.listing.proofs.TextLaws.{Spelling}
-use Prim.Native.Nat.{◌-◌}
-use lib.ListN.{length}
 use Rattle.listing.proofs.texts.put_words.Given as goal
 
 abbrev pub invariant-loop-i : goal.invariant-loop-i
 invariant-loop-i l = Spelling l.words l.initial.out l.at l.i l.out
-
-abbrev pub decreases-loop-i : goal.decreases-loop-i
-decreases-loop-i l = length l.words - l.i

@@ -1,11 +1,7 @@
 use Rattle.paths.specs.Steps.{legal_by}
 use Rattle.paths.specs.Labels.{by_labels}
-use Prim.Native.Nat.{◌-◌}
 use Rattle.papers.proofs.ProgramCodeLaws.{Steps}
 use Rattle.papers.proofs.programs.from_steps.Given as goal
 
 abbrev pub invariant-loop-i : goal.invariant-loop-i
-invariant-loop-i l = Steps (legal_by (by_labels l.labels.of l.envelope) l.envelope) l.envelope l.s l.n l.at l.i l.p l.out
-
-abbrev pub decreases-loop-i : goal.decreases-loop-i
-decreases-loop-i l = l.end - l.i
+invariant-loop-i l = Steps (legal_by (by_labels l.labels.of l.envelope) l.envelope) l.envelope l.s l.count l.at l.i l.end l.steps

@@ -3,4 +3,4 @@ use Rattle.papers.proofs.puts.put_program.Goals as goal
 
 pub returns : goal.returns
 returns c = put_program c.args.program _ _ _ _ _ _ _
-    c.put_head-p.ensures c.put_number.ensures c.put_number-2.ensures c.put_steps.ensures
+    c.put_head-p.ensures c.put_number.ensures c.put_number-2.ensures _ c.first.ensures c.put_steps.ensures

@@ -2,7 +2,4 @@ use Rattle.paths.proofs.LabelCodeLaws.{Labelling}
 use Rattle.paths.proofs.labels.by_clauses.Given as goal
 
 abbrev pub invariant-loop-i : goal.invariant-loop-i
-invariant-loop-i l = Labelling l.envelope l.clauses l.n l.i l.labels
-
-abbrev pub decreases-loop-i : goal.decreases-loop-i
-decreases-loop-i l = l.i
+invariant-loop-i l = Labelling l.envelope l.clauses l.i l.labels

@@ -1,12 +1,14 @@
-use Rattle.paths.proofs.LabelCodeLaws.{constant_found, constant_passed, constant_none}
+use native.Mathlib.Omega.{arith}
 use borrow.Author.Rules.{rules}
+use Rattle.paths.proofs.LabelCodeLaws.{constant_place, constant_few}
 use Rattle.paths.proofs.labels.constant_number.Goals as goal
 
-pub returns-then-kind_selects : goal.returns-then-kind_selects
-returns-then-kind_selects c = search (constant_found, rules)
-
-pub loop-i-preserved : goal.loop-i-preserved
-loop-i-preserved c = search (constant_passed, rules)
+pub overflow_add-result : goal.overflow_add-result
+overflow_add-result c = let a = c.args in
+    omega (
+      arith,
+      constant_few a.envelope a.domain a.value _ c.clauses_in_use-clauses.ensures _ c.first_that_selects-first.ensures _ c.unwrap_or.ensures,
+    )
 
 pub returns : goal.returns
-returns c = search (constant_none, rules)
+returns c = search (constant_place, rules)

@@ -19,8 +19,9 @@ open_rows-requires c = let h : c.loop-relation.relation < relation_count c.args.
 pub loop-relation-preserved : goal.loop-relation-preserved
 loop-relation-preserved c =
     opening_all_more c.args.envelope c.args.tables.now (λ r. get_or c.args.here r false) _ _ _ _ c.loop-relation.invariant
-    c.requires.0 _ c.labels_of-labels.ensures _ c.extent_of-extent.ensures _ c.selections_by-selections.ensures _
-    c.equalities_by-equalities.ensures c.loop-relation-test.true _ c.open_rows.ensures
+    c.requires.0 _ c.labels_of-labels.ensures _ c.extent_of-extent.ensures _ c.selections_by-selected.ensures _
+    c.equalities_by-equal.ensures _ c.first.ensures _ c.first-in-loop-relation.ensures c.loop-relation-test.true _
+    c.open_rows.ensures
 
 pub returns : goal.returns
 returns c =

@@ -1,4 +1,3 @@
-use Prim.Native.Nat.{◌-◌}
 use mathlib.Core.Bool.{false}
 use lib.ListN.{get_or}
 use Rattle.semijoin.proofs.LocalCodeLaws.{OpeningAll}
@@ -6,6 +5,3 @@ use Rattle.semijoin.proofs.local.open_all.Given as goal
 
 abbrev pub invariant-loop-relation : goal.invariant-loop-relation
 invariant-loop-relation l = OpeningAll l.envelope l.tables (λ r. get_or l.here r false) l.initial.marks l.end l.relation l.marks
-
-abbrev pub decreases-loop-relation : goal.decreases-loop-relation
-decreases-loop-relation l = l.end - l.relation

@@ -1,12 +1,12 @@
-use Rattle.ends.proofs.EndLaws.{usable_known}
-use Rattle.station.proofs.MakingCodeLaws.{make_refused, make_with}
+use Rattle.station.proofs.MakingCodeLaws.{exits_with, usable_of, make_refused, make_goes}
 use Rattle.station.proofs.making.make_values.Goals as goal
 
 pub values_with-requires : goal.values_with-requires
-values_with-requires c = usable_known _ _ _ _ c.usable_end-read.ensures c.in-Taken.is
+values_with-requires c = usable_of _ _ _ _ c.usable_end.ensures _ c.in_ok-papers.was
 
-pub returns-in-Refused : goal.returns-in-Refused
-returns-in-Refused c = make_refused _ _ _ _ _ _ c.usable_end-read.ensures _ _ c.in-Refused.is
+pub returns-in_err-papers : goal.returns-in_err-papers
+returns-in_err-papers c =
+    exits_with _ _ _ c.from_residual.ensures.1 (make_refused _ _ _ _ c.usable_end.ensures _ _ _ c.in_err-papers.was)
 
-pub returns-in-Taken : goal.returns-in-Taken
-returns-in-Taken c = make_with _ _ _ _ _ _ c.usable_end-read.ensures c.in-Taken.is _ _ c.values_with.ensures
+pub returns : goal.returns
+returns c = make_goes _ _ _ _ c.usable_end.ensures _ _ _ c.in_ok-papers.was _ _ c.values_with.ensures

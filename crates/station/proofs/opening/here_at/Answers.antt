@@ -1,12 +1,7 @@
-use Rattle.ground.proofs.NumberingLaws.{numbering_start, numbering_more, numbering_done}
-use borrow.Author.Rules.{rules}
+use Rattle.std.proofs.Common.{rules}
+use Rattle.ground.proofs.MadeLaws.{made_is}
+use Rattle.contents.specs.Sites.{is_at}
 use Rattle.station.proofs.opening.here_at.Goals as goal
 
-pub loop-relation-init : goal.loop-relation-init
-loop-relation-init c = search (numbering_start, rules)
-
-pub loop-relation-preserved : goal.loop-relation-preserved
-loop-relation-preserved c = search (numbering_more, rules)
-
 pub returns : goal.returns
-returns c = search (numbering_done, rules)
+returns c = made_is _ (is_at c.args.envelope c.args.site) _ 8 (λ i y q h k. search rules) _ c.from_fn.ensures.items

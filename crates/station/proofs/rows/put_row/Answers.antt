@@ -1,6 +1,6 @@
+use Rattle.std.proofs.Common.{arith}
 use Rattle.station.proofs.RowCodeLaws.{row_more}
-use borrow.Author.Rules.{rules}
 use Rattle.station.proofs.rows.put_row.Goals as goal
 
 pub loop-i-preserved : goal.loop-i-preserved
-loop-i-preserved c = search (row_more, rules)
+loop-i-preserved c = row_more _ _ _ _ _ _ c.loop-i.invariant (omega arith) _ c.word_at.ensures

@@ -8,20 +8,20 @@ pub loop-row-init : goal.loop-row-init
 loop-row-init c = search (shipping_start, rules)
 
 pub put_row-requires : goal.put_row-requires
-put_row-requires c = search (shipping_room, rules)
+put_row-requires c = shipping_room _ _ _ _ _ _ _ _ c.loop-row.invariant (omega arith) _ c.is_kept-kept.ensures c.if-kept.true c.requires
 
 pub overflow_add-at : goal.overflow_add-at
 overflow_add-at c =
     omega (
       arith,
-      shipping_fits _ _ _ _ _ _ _ _ _ c.loop-row.invariant c.loop-row-test.true _ c.is_kept-kept.ensures
-          c.if-kept.true c.requires _ c.in_use-width.ensures (omega arith),
+      shipping_fits _ _ _ _ _ _ _ _ c.loop-row.invariant (omega arith) _ c.is_kept-kept.ensures c.if-kept.true c.requires,
     )
 
 pub loop-row-preserved : goal.loop-row-preserved
 loop-row-preserved c =
     elim c.if-kept.branch [
-      | then-kept w ↦ shipping_yes _ _ _ _ _ _ _ _ _ c.loop-row.invariant c.loop-row-test.true _ c.is_kept-kept.ensures
-          w.if-kept.true _ _ w.message-is w.put_row.ensures _ _ c.in_use-width.ensures (omega arith) w.at-is
-      | else-kept w ↦ search (shipping_no, rules)
+      | then-kept w ↦ shipping_yes _ _ _ _ _ _ _ _ c.loop-row.invariant (omega arith) _ c.is_kept-kept.ensures
+          w.if-kept.true _ _ w.message-is w.put_row.ensures _ w.at-is
+      | else-kept w ↦ shipping_no _ _ _ _ _ _ _ _ c.loop-row.invariant (omega arith) _ c.is_kept-kept.ensures
+          w.if-kept.false _ w.message-is _ w.at-is
     ]

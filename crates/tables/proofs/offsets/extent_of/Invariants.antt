@@ -1,9 +1,6 @@
 use Rattle.tables.proofs.OffsetCodeLaws.{Adding}
-use Prim.Native.Nat.{◌≤◌, ◌-◌}
+use Prim.Native.Nat.{◌≤◌}
 use Rattle.tables.proofs.offsets.extent_of.Given as goal
 
 abbrev pub invariant-loop-i : goal.invariant-loop-i
 invariant-loop-i l = (l.i ≤ l.relation) × Adding l.envelope l.tables l.i l.word l.mark
-
-abbrev pub decreases-loop-i : goal.decreases-loop-i
-decreases-loop-i l = l.relation - l.i

@@ -1,0 +1,134 @@
+-- The laws that the functions on a relation's steps go by: how many of the first steps reduce it, and what a search past those
+-- applied has found.
+use mathlib.Core.Path.{◌≡◌, refl, sym, ◌∙◌}
+use Prim.Native.Nat.{ℕ, zero, suc, ◌+◌, ◌-◌, ◌≤◌, ◌<◌, min}
+use native.Mathlib.Numerals.{add-one}
+use native.Mathlib.Omega.{arith}
+use mathlib.Core.List.{List, [], ◌∷◌, ◌++◌}
+use mathlib.Core.Bool.{Bool, true, false, cond}
+use lib.Dec.{eqb, ltb}
+use lib.ListN.{length, get_or, take, length-append, length-take}
+use lib.Seq.{take-suc}
+use borrow.Author.Tests.{eq-eqb, ne_eqb, lt-ltb, le-ltb}
+use Rattle.std.specs.Prelude.{Option, Some, None}
+use Rattle.std.specs.List.{count_by}
+use Rattle.ground.specs.Tests.{pick}
+use Rattle.ground.specs.Lists.{filter, below, numbers_from}
+use Rattle.ground.proofs.ListLaws.{filter_append, filter_length}
+use Rattle.ground.proofs.NumbersLaws.{filter_below}
+use Rattle.ground.proofs.MirrorLaws.{count_is}
+use Rattle.ground.proofs.CountingLaws.{Counting, counting_start, counting_yes, counting_no, counting_done, counting_found, counting_less}
+use Rattle.papers.specs.Programs.{no_step, steps_of}
+use Rattle.paths.specs.declared.steps.Step.{Step}
+use Rattle.papers.specs.declared.programs.Program.{Program}
+use Rattle.ends.specs.Reducing.{reduces, reducing, steps_before}
+
+-- ---- how many of the first steps reduce a relation
+
+module _ (steps : List Step) (r : ℕ) where
+  abbrev of_r : Step → Bool
+  of_r s = eqb s.left.relation r
+
+  one_more : (k : ℕ) → length (filter of_r (get_or steps k no_step ∷ [])) ≡ length (filter (reduces steps r) (k ∷ []))
+  unfolding reduces
+  one_more k = go (of_r (get_or steps k no_step))
+    where
+      go : (b : Bool) → length (cond b (get_or steps k no_step ∷ []) []) ≡ length (cond b (k ∷ []) [])
+      go true = refl
+      go false = refl
+
+  none_of : length (filter of_r []) ≡ length (filter (reduces steps r) (below 0))
+  unfolding numbers_from
+  none_of = refl
+
+  pub first_reducing : (k : ℕ) → k ≤ length steps → length (filter of_r (take k steps)) ≡ length (filter (reduces steps r) (below k))
+  first_reducing zero h = none_of
+  first_reducing (suc k) h =
+      let ih : length (filter of_r (take k steps)) ≡ length (filter (reduces steps r) (below k)) = first_reducing k (omega arith) in
+      let some : List Step = filter of_r (get_or steps k no_step ∷ []) in
+      let one : List ℕ = filter (reduces steps r) (k ∷ []) in
+      let here : filter of_r (take (suc k) steps) ≡ filter of_r (take k steps) ++ some =
+      rw (take-suc steps k no_step (omega arith)) (filter_append of_r (take k steps) (get_or steps k no_step ∷ [])) in
+      let there : filter (reduces steps r) (below (suc k)) ≡ filter (reduces steps r) (below k) ++ one =
+      rw (← add-one k) (filter_below (reduces steps r) k) in
+      rw (here, there)
+      (omega (
+        arith,
+        ih,
+        one_more k,
+        length-append (filter of_r (take k steps)) some,
+        length-append (filter (reduces steps r) (below k)) one,
+      ))
+
+pub before_count : (p : Program) (r n : ℕ) (k : ℕ) → k ≡ count_by (λ (s : Step). eqb s.left.relation r) (take (min n (length (steps_of p))) (steps_of p))
+    → k ≡ steps_before p r n
+unfolding steps_before reducing
+before_count p r n k e =
+    e
+    ∙ count_is (λ (s : Step). eqb s.left.relation r) (take (min n (length (steps_of p))) (steps_of p))
+    ∙ first_reducing (steps_of p) r (min n (length (steps_of p))) (omega arith)
+
+pub count_small : (p : Program) (r n : ℕ) (k : ℕ) → k ≡ count_by (λ (s : Step). eqb s.left.relation r) (take n (steps_of p)) → k ≤ length p.steps
+unfolding steps_of
+count_small p r n k e =
+    let same : k ≡ length (filter (λ (s : Step). eqb s.left.relation r) (take n (steps_of p))) =
+    e ∙ count_is (λ (s : Step). eqb s.left.relation r) (take n (steps_of p)) in
+    omega (
+      arith,
+      same,
+      filter_length (λ (s : Step). eqb s.left.relation r) (take n (steps_of p)),
+      length-take n (steps_of p),
+      length-take p.count p.steps,
+    )
+
+-- ---- a search past so many steps of the relation: of those before i, all but so many that are left were passed over
+
+module _ (steps : List Step) (r skip n : ℕ) where
+  abbrev f : ℕ → Bool
+  f = reduces steps r
+
+  abbrev end : ℕ
+  end = min n (length steps)
+
+  -- what the search answers
+  abbrev Next : Option ℕ → Type 0
+  Next x = x ≡ pick (ltb skip (length (reducing steps r n))) (Some (get_or (reducing steps r n) skip 0)) None
+
+  pub record Passing (i left : ℕ) : Type 0 where
+    pub few : left ≤ skip
+    pub counted : Counting f end i (skip - left)
+
+  pub passing_start : Passing 0 skip
+  passing_start = let z : skip - skip ≡ 0 = omega arith in record { few = omega arith; counted = rw z (counting_start f end) }
+
+  module _ (i left : ℕ) (g : Passing i left) where
+    module _ (h : i < end) where
+      pub passing_other : ((get_or steps i no_step).left.relation ≡ r → ⊥) → Passing (i + 1) left
+      unfolding reduces
+      passing_other t =
+          record { few = g.few; counted = counting_no f end i (skip - left) g.counted h (ne_eqb (get_or steps i no_step).left.relation r t) }
+
+      module _ (t : (get_or steps i no_step).left.relation ≡ r) where
+        own : f i ≡ true
+        unfolding reduces
+        own = eq-eqb (get_or steps i no_step).left.relation r t
+
+        pub passing_own : (left ≡ 0 → ⊥) → Passing (i + 1) (left - 1)
+        passing_own z =
+            let s : skip - left + 1 ≡ skip - (left - 1) = omega (arith, g.few) in
+            record { few = omega (arith, g.few); counted = rw s at (counting_yes f end i (skip - left) g.counted h own) }
+
+        pub next_found : left ≡ 0 → Next (Some i)
+        unfolding reducing
+        next_found z =
+            let s : skip - left ≡ skip = omega arith in
+            let less : skip < length (filter f (below end)) = rw s at (counting_less f end i (skip - left) g.counted h own) in
+            let is : get_or (filter f (below end)) skip 0 ≡ i = rw s at (counting_found f end i (skip - left) g.counted h own) in
+            sym (rw (lt-ltb skip (length (filter f (below end))) less, is))
+
+    pub next_none : end ≤ i → Next None
+    unfolding reducing
+    next_none h =
+        let all : skip - left ≡ length (filter f (below end)) = counting_done f end i (skip - left) g.counted h in
+        let few : length (filter f (below end)) ≤ skip = omega arith in
+        sym (rw (le-ltb skip (length (filter f (below end))) few))

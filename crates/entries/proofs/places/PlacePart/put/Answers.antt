@@ -1,0 +1,7 @@
+use Rattle.fields.proofs.PartLaws.{then_part}
+use Rattle.entries.specs.Places.{place_bytes}
+use Rattle.entries.proofs.places.PlacePart.put.Goals as goal
+
+pub returns : goal.returns
+unfolding place_bytes
+returns c = then_part _ _ _ _ 1 _ c.put-next.ensures _ _ 1 _ c.put.ensures

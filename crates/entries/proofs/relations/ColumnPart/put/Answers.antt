@@ -1,0 +1,7 @@
+use Rattle.fields.proofs.PartLaws.{then_part}
+use Rattle.entries.specs.Relations.{column_bytes}
+use Rattle.entries.proofs.relations.ColumnPart.put.Goals as goal
+
+pub returns : goal.returns
+unfolding column_bytes
+returns c = then_part _ _ _ _ 2 _ (then_part _ _ _ _ 1 _ c.put-p.ensures _ _ 1 _ c.put-q.ensures) _ _ 4 _ c.put.ensures

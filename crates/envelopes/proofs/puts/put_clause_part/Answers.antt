@@ -1,6 +1,0 @@
-use Rattle.envelopes.proofs.PutCodeLaws.{count_long, put_count}
-use borrow.Author.Rules.{rules}
-use Rattle.envelopes.proofs.puts.put_clause_part.Goals as goal
-
-pub returns : goal.returns
-returns c = search (count_long, put_count, rules)

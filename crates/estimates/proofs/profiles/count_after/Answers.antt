@@ -1,6 +1,0 @@
-use Rattle.estimates.proofs.StepCodeLaws.{count_after_is}
-use Rattle.estimates.proofs.profiles.count_after.Goals as goal
-
-pub returns : goal.returns
-returns c = let a = c.args in
-    count_after_is a.envelope a.profile a.step _ _ c.count_at-count.ensures c.remaining.ensures

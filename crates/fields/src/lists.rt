@@ -1,0 +1,45 @@
+// Lists of a paper: so many of a kind read one after the other, into an array of a fixed size.
+ghost use Rattle.std.specs.Prelude.{◌≡◌, ◌≤◌, ℕ};
+ghost use Rattle.ground.specs.Outcome.{Outcome, many, read_of};
+ghost use Rattle.fields.specs.Lists.{ReadsBy, arrayed, counted};
+
+use crate::numbers::Width;
+use ground::refusals::Refusal;
+
+// Each is read by what is passed, from the position past the one before; behind the last one stands an empty value.
+pub fn read_many<T: Copy, const N: usize, F: Fn(usize) -> Result<(T, usize), Refusal>>(
+    n: usize,
+    at: usize,
+    empty: T,
+    read: F,
+) -> Result<([T; N], usize), Refusal>
+    requires count { n ≤ N }
+    requires callable { F.IsAlwaysCallable read }
+    ensures { (item : ℕ → Outcome T) → ReadsBy (F.post read) item → result ≡ read_of (arrayed N empty (many item n at)) }
+{
+    let mut out = [empty; N];
+    let mut end = at;
+    for i in 0..n {
+        let (value, next) = read(end)?;
+        out[i] = value;
+        end = next;
+    }
+    Ok((out, end))
+}
+
+// A count of one byte, from low to the array's size, and as many of a kind.
+pub fn read_list<T: Copy, const N: usize, F: Fn(usize) -> Result<(T, usize), Refusal>>(
+    s: &[u8],
+    at: usize,
+    low: u32,
+    empty: T,
+    read: F,
+) -> Result<((u8, [T; N]), usize), Refusal>
+    requires size { N ≤ 255 }
+    requires callable { F.IsAlwaysCallable read }
+    ensures { (item : ℕ → Outcome T) → ReadsBy (F.post read) item → result ≡ read_of (counted low N empty item s.now at) }
+{
+    let (count, start) = crate::numbers::number_in(s, at, Width::One, low, N as u32)?;
+    let (all, end) = read_many(count as usize, start, empty, read)?;
+    Ok(((count as u8, all), end))
+}
