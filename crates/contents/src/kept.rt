@@ -6,7 +6,7 @@ ghost use Rattle.contents.specs.Kept.{names, kept, kept_columns, shown_columns, 
 
 use crate::envelope::Envelope;
 use entries::clauses::{Clause, ClauseKind};
-use entries::places::Place;
+use entries::places::{Place, same_place};
 
 // The numbers of some columns, rising: count of them, and 0 behind them. Contracts of the crates above speak of both fields.
 #[derive(Clone, Copy)]
@@ -29,8 +29,8 @@ fn kind_names(kind: ClauseKind, place: Place) -> bool
     ensures { result ≡ names kind place }
 {
     match kind {
-        ClauseKind::Selection { place: a, value: _ } => a == place,
-        ClauseKind::Join { left, right } => left == place || right == place,
+        ClauseKind::Selection { place: a, value: _ } => same_place(a, place),
+        ClauseKind::Join { left, right } => same_place(left, place) || same_place(right, place),
     }
 }
 
@@ -44,13 +44,13 @@ fn clauses_name(clauses: &[Clause], place: Place) -> bool
 fn targets_name(targets: &[Place], place: Place) -> bool
     ensures { result ≡ any (λ (t : Place). same_place t place) targets.now }
 {
-    targets.iter().any(|target| *target == place)
+    targets.iter().any(|target| same_place(*target, place))
 }
 
 // Whether a column is kept: it stands in a clause or target.
 #[tactic(auto, unfolding(crate::specs::Kept::kept))]
-pub(crate) fn is_kept_column(envelope: Envelope, place: Place) -> bool
-    ensures { result ≡ kept envelope place }
+pub(crate) fn is_kept_column(envelope: &Envelope, place: Place) -> bool
+    ensures { result ≡ kept envelope.now place }
 {
     clauses_name(envelope.clauses_in_use(), place) || targets_name(envelope.targets_in_use(), place)
 }
@@ -63,7 +63,7 @@ pub fn kept_columns(envelope: Envelope, relation: u8) -> Columns
     let mut numbers = [0u8; 8];
     let mut count: u8 = 0;
     for column in 0..end {
-        if is_kept_column(envelope, Place { relation, column }) {
+        if is_kept_column(&envelope, Place { relation, column }) {
             numbers[count as usize] = column;
             count += 1;
         }

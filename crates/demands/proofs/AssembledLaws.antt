@@ -1,11 +1,12 @@
 -- The answering station: from what it holds it answers as the envelope on all tables does, once every relation's row message has
 -- arrived; until then it says which is the first missing.
-use mathlib.Core.Path.{◌≡◌, ap, ◌∙◌}
+use mathlib.Core.Path.{◌≡◌, refl, ap, ◌∙◌}
 use mathlib.Core.Bool.{true, false}
 use mathlib.Core.List.{List, []}
 use Prim.Native.Nat.{ℕ, ◌≤◌, ◌<◌}
 use lib.ListN.{length}
 use Rattle.ground.specs.Outcome.Outcome.{good, bad}
+use Rattle.ground.specs.Refusals.{number_of}
 use Rattle.ground.specs.declared.refusals.Reason.TheVariants.{Waiting}
 use Rattle.contents.specs.Parts.{relation_count}
 use Rattle.contents.specs.declared.envelope.Envelope.{Envelope}
@@ -29,6 +30,11 @@ use Rattle.demands.proofs.AppendedLaws.{held_map}
 use Rattle.demands.proofs.SoundLaws.{lent_used, lent_same}
 use Rattle.demands.proofs.SaidLaws.{value_rows, rows_rows}
 use Rattle.demands.proofs.ReadyLaws.{assembly_few}
+
+-- the number of what is answered until then
+pub waiting_number : number_of Waiting ≡ 12
+unfolding number_of
+waiting_number = refl
 
 module _ (c : Crew) (w : Allowed c) where
   abbrev e : Envelope

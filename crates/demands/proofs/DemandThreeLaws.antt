@@ -30,7 +30,7 @@ use Rattle.demands.proofs.StartLaws.{sound_start, sound_next}
 use Rattle.demands.proofs.LowerLaws.{lower_start, lower_next}
 use Rattle.demands.proofs.UpperLaws.{upper_start, upper_next}
 use Rattle.demands.proofs.ReadyLaws.{assembly_few}
-use Rattle.demands.proofs.AssembledLaws.{waits, answers}
+use Rattle.demands.proofs.AssembledLaws.{waits, waiting_number, answers}
 use Rattle.demands.proofs.RoomLaws.{Roomy, room_start, room_next, arrived_stays, row_arrives, row_suffices}
 
 -- an envelope and the same as it reads back give the same answer
@@ -86,7 +86,7 @@ module _ (c : Crew) (w : Allowed c) where
               answer = λ all behind lent room.
                   answers c w s a.sound behind lent a.lower all (rw (same_answer c w) room)
                   ∙ ap (λ (l : List ℕ). good l (length l)) (same_answer c w);
-              waits = λ r h missing before behind lent. waits c w s a.sound behind lent r h missing before;
+              waits = λ r h missing before behind lent. (waits c w s a.sound behind lent r h missing before, waiting_number);
               held =
                   held_map c.papers.envelope (λ r m k. (a.upper.made m k.0, k.1)) (answering c s).end.arrived
                   (held_by (answering c s).end (answering c s).store) (a.sound c.papers.program.site (assembly_few c w)).stored;

@@ -1,4 +1,5 @@
--- Of each public function that reads, checks, writes, plans, estimates or lists, or serves those: its contract determines it.
+-- Of each public function that reads, checks, writes, plans, estimates or lists, or serves those, and of each method of an impl that does: its
+-- contract determines it.
 use Rattle.ground.proofs.least
 use Rattle.ground.proofs.refusals
 use Rattle.ground.proofs.used
@@ -43,6 +44,9 @@ nearer_of_one κs a y z u v p q = (same p q, refl)
 pub at_one : Determined refusals.Reason.at.Kinds.ps refusals.Reason.at.Kinds.r refusals.Reason.at.Reads.Learnt
 at_one κs a y z u v p q = (same p q, refl)
 
+pub from_one : Determined refusals.U8FromReason.from.Kinds.ps refusals.U8FromReason.from.Kinds.r refusals.U8FromReason.from.Reads.Learnt
+from_one κs a y z u v p q = (same p q, refl)
+
 -- ---- fields
 
 pub number_at_one : Determined numbers.number_at.Kinds.ps numbers.number_at.Kinds.r numbers.number_at.Reads.Learnt
@@ -59,6 +63,12 @@ read_head_one κs a y z u v p q = (same p q, refl)
 
 pub put_number_one : Determined puts.put_number.Kinds.ps puts.put_number.Kinds.r puts.put_number.Reads.Learnt
 put_number_one κs a y z u v p q = (refl, λ i. (same p q i, (tt, (tt, (tt, tt)))))
+
+pub put_byte_one : Determined puts.U8Part.put.Kinds.ps puts.U8Part.put.Kinds.r puts.U8Part.put.Reads.Learnt
+put_byte_one κs a y z u v p q = (same p.0 q.0, λ i. (tt, (same p.1.1 q.1.1 i, (tt, tt))))
+
+pub put_size_one : Determined puts.U32Part.put.Kinds.ps puts.U32Part.put.Kinds.r puts.U32Part.put.Reads.Learnt
+put_size_one κs a y z u v p q = (same p.0 q.0, λ i. (tt, (same p.1.1 q.1.1 i, (tt, tt))))
 
 pub put_head_one : Determined puts.put_head.Kinds.ps puts.put_head.Kinds.r puts.put_head.Reads.Learnt
 put_head_one κs a y z u v p q = (same p.0 q.0, λ i. (same p.1 q.1 i, (tt, (tt, (tt, (tt, tt))))))
@@ -80,6 +90,9 @@ read_clause_one κs a y z u v p q = (same p q, refl)
 pub no_place_one : Determined places.no_place.Kinds.ps places.no_place.Kinds.r places.no_place.Reads.Learnt
 no_place_one κs a y z u v p q = (same p q, refl)
 
+pub same_place_one : Determined places.same_place.Kinds.ps places.same_place.Kinds.r places.same_place.Reads.Learnt
+same_place_one κs a y z u v p q = (same p q, refl)
+
 pub named_column_one : Determined places.named_column.Kinds.ps places.named_column.Kinds.r places.named_column.Reads.Learnt
 named_column_one κs a y z u v p q = (same p q, refl)
 
@@ -100,6 +113,18 @@ no_relation_one κs a y z u v p q = (same p q, refl)
 
 pub read_relation_one : Determined relations.read_relation.Kinds.ps relations.read_relation.Kinds.r relations.read_relation.Reads.Learnt
 read_relation_one κs a y z u v p q = (same p q, refl)
+
+pub put_clause_one : Determined clauses.ClausePart.put.Kinds.ps clauses.ClausePart.put.Kinds.r clauses.ClausePart.put.Reads.Learnt
+put_clause_one κs a y z u v p q = (same p.0 q.0, λ i. (tt, (same p.1.1 q.1.1 i, (tt, tt))))
+
+pub put_place_one : Determined places.PlacePart.put.Kinds.ps places.PlacePart.put.Kinds.r places.PlacePart.put.Reads.Learnt
+put_place_one κs a y z u v p q = (same p.0 q.0, λ i. (tt, (same p.1.1 q.1.1 i, (tt, tt))))
+
+pub put_column_one : Determined relations.ColumnPart.put.Kinds.ps relations.ColumnPart.put.Kinds.r relations.ColumnPart.put.Reads.Learnt
+put_column_one κs a y z u v p q = (same p.0 q.0, λ i. (tt, (same p.1.1 q.1.1 i, (tt, tt))))
+
+pub put_relation_one : Determined relations.RelationPart.put.Kinds.ps relations.RelationPart.put.Kinds.r relations.RelationPart.put.Reads.Learnt
+put_relation_one κs a y z u v p q = (same p.0 q.0, λ i. (tt, (same p.1.1 q.1.1 i, (tt, tt))))
 
 -- ---- contents
 

@@ -2,7 +2,7 @@
 -- tables, once every table's row message has been delivered to it, and until then it says which table is missing. No row
 -- arrives that the program, run in order in one place, would have removed." What is promised of a state that a crew comes to.
 use Rattle.std.specs.Prelude.{ℕ, ◌+◌, ◌≤◌, ◌<◌, ◌≡◌, true, false, List, length, take, replicate}
-use Rattle.demands.specs.Words.{List-as-Memᴰ, Waiting, good, bad, relation_count, is_at, Envelope, answer_words, steps_of, Program}
+use Rattle.demands.specs.Words.{List-as-Memᴰ, Waiting, number_of, good, bad, relation_count, is_at, Envelope, answer_words, steps_of, Program}
 use Rattle.demands.specs.Words.{row_count, values_of, opened_in, stepped_all, run_marks, SameRows, FewerRows, FewerValues, Covers, Holds, step_count, step_of, steps_before, applied_of, has_arrived}
 use Rattle.demands.specs.Words.{value_message, row_message, second_of, sent_rows, Held, held_by, SoundRows, OneOfEach, assembled_outcome}
 use Rattle.demands.specs.Link.{Crew, Allowed, State, start, Event, Possible, lent_store, after, after_events, Follows}
@@ -58,7 +58,7 @@ module _ (c : Crew) where
         → assembled_outcome (answering s).end (lent_store (answering s) behind) room ≡ good (answer_words c.envelope c.whole) (length (answer_words c.envelope c.whole))
     -- until then 12, with the lowest relation that has not
     pub waits : (r : ℕ) → r < relation_count e → has_arrived (answering s).end r ≡ false → ((k : ℕ) → k < r → has_arrived (answering s).end k ≡ true)
-        → (behind : List ℕ) (room : ℕ) → assembled_outcome (answering s).end (lent_store (answering s) behind) room ≡ bad Waiting r
+        → (behind : List ℕ) (room : ℕ) → (assembled_outcome (answering s).end (lent_store (answering s) behind) room ≡ bad Waiting r) × (number_of Waiting ≡ 12)
     -- what it holds is one sound row message of each relation that has, and no row is in them that the one-place run removes
     pub held : OneOfEach e (λ r m. UpperMade m × SoundRows e c.run r m) (answering s).end.arrived (held_by (answering s).end (answering s).store)
     -- a relation's row message that comes to it, and for which there is room, has arrived then, and stays so; of every run 16,400

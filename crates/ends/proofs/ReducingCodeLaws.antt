@@ -1,13 +1,13 @@
 -- The laws that the functions on a relation's steps go by: how many of the first steps reduce it, and what a search past those
 -- applied has found.
-use mathlib.Core.Path.{◌≡◌, refl, sym, ◌∙◌}
+use mathlib.Core.Path.{◌≡◌, refl, sym, ◌∙◌, ap}
 use Prim.Native.Nat.{ℕ, zero, suc, ◌+◌, ◌-◌, ◌≤◌, ◌<◌, min}
 use native.Mathlib.Numerals.{add-one}
 use native.Mathlib.Omega.{arith}
 use mathlib.Core.List.{List, [], ◌∷◌, ◌++◌}
 use mathlib.Core.Bool.{Bool, true, false, cond}
 use lib.Dec.{eqb, ltb}
-use lib.ListN.{length, get_or, take, length-append, length-take}
+use lib.ListN.{length, get_or, take, drop, length-append, length-take}
 use lib.Seq.{take-suc}
 use borrow.Author.Tests.{eq-eqb, ne_eqb, lt-ltb, le-ltb}
 use Rattle.std.specs.Prelude.{Option, Some, None}
@@ -22,6 +22,8 @@ use Rattle.papers.specs.Programs.{no_step, steps_of}
 use Rattle.paths.specs.declared.steps.Step.{Step}
 use Rattle.papers.specs.declared.programs.Program.{Program}
 use Rattle.ends.specs.Reducing.{reduces, reducing, steps_before}
+use Rattle.ends.specs.Searching.{Search, seen_of, sought_from, search_for, number_found, sought_next}
+use Rattle.ends.proofs.SearchingLaws.{seen_other, seen_one, seen_past, sought_turn, sought_done, sought_past}
 
 -- ---- how many of the first steps reduce a relation
 
@@ -90,33 +92,62 @@ module _ (steps : List Step) (r skip n : ℕ) where
   abbrev end : ℕ
   end = min n (length steps)
 
-  -- what the search answers
+  -- what the search answers: the step behind so many, which is what the fold over the steps finds
   abbrev Next : Option ℕ → Type 0
-  Next x = x ≡ pick (ltb skip (length (reducing steps r n))) (Some (get_or (reducing steps r n) skip 0)) None
+  Next x =
+      (x ≡ pick (ltb skip (length (reducing steps r n))) (Some (get_or (reducing steps r n) skip 0)) None)
+      × (x ≡ sought_next steps r skip n)
+
+  -- the fold as it is at i
+  abbrev now : ℕ → Search
+  now left = search_for r left end
 
   pub record Passing (i left : ℕ) : Type 0 where
     pub few : left ≤ skip
     pub counted : Counting f end i (skip - left)
+    pub sought : sought_from (drop i steps) i (now left) ≡ sought_from steps 0 (now skip)
 
   pub passing_start : Passing 0 skip
-  passing_start = let z : skip - skip ≡ 0 = omega arith in record { few = omega arith; counted = rw z (counting_start f end) }
+  passing_start = let z : skip - skip ≡ 0 = omega arith in record { few = omega arith; counted = rw z (counting_start f end); sought = refl }
 
   module _ (i left : ℕ) (g : Passing i left) where
     module _ (h : i < end) where
-      pub passing_other : ((get_or steps i no_step).left.relation ≡ r → ⊥) → Passing (i + 1) left
+      abbrev one : Step
+      one = get_or steps i no_step
+
+      -- what is left is sought by what one more step makes of the search
+      on : (c : Search) → c ≡ seen_of (now left) one i → sought_from (drop (i + 1) steps) (i + 1) c ≡ sought_from steps 0 (now skip)
+      on c e = ap (sought_from (drop (i + 1) steps) (i + 1)) e ∙ sym (sought_turn steps i (now left) (omega (arith, h))) ∙ g.sought
+
+      pub passing_other : (one.left.relation ≡ r → ⊥) → Passing (i + 1) left
       unfolding reduces
       passing_other t =
-          record { few = g.few; counted = counting_no f end i (skip - left) g.counted h (ne_eqb (get_or steps i no_step).left.relation r t) }
+          record {
+            few = g.few;
+            counted = counting_no f end i (skip - left) g.counted h (ne_eqb one.left.relation r t);
+            sought = on _ (seen_other (now left) one i refl h t);
+          }
 
-      module _ (t : (get_or steps i no_step).left.relation ≡ r) where
+      module _ (t : one.left.relation ≡ r) where
         own : f i ≡ true
         unfolding reduces
-        own = eq-eqb (get_or steps i no_step).left.relation r t
+        own = eq-eqb one.left.relation r t
 
         pub passing_own : (left ≡ 0 → ⊥) → Passing (i + 1) (left - 1)
         passing_own z =
             let s : skip - left + 1 ≡ skip - (left - 1) = omega (arith, g.few) in
-            record { few = omega (arith, g.few); counted = rw s at (counting_yes f end i (skip - left) g.counted h own) }
+            record {
+              few = omega (arith, g.few);
+              counted = rw s at (counting_yes f end i (skip - left) g.counted h own);
+              sought = on _ (seen_past (now left) one i refl h t z);
+            }
+
+        found_one : left ≡ 0 → Some i ≡ sought_next steps r skip n
+        found_one z =
+            let it : Search = record { relation = r; skip = left; end = end; found = true; at = i } in
+            let is : it ≡ sought_from steps 0 (now skip) =
+            sym (sought_done (drop (i + 1) steps) (i + 1) it refl) ∙ on it (seen_one (now left) one i refl h t z) in
+            ap number_found is
 
         pub next_found : left ≡ 0 → Next (Some i)
         unfolding reducing
@@ -124,11 +155,12 @@ module _ (steps : List Step) (r skip n : ℕ) where
             let s : skip - left ≡ skip = omega arith in
             let less : skip < length (filter f (below end)) = rw s at (counting_less f end i (skip - left) g.counted h own) in
             let is : get_or (filter f (below end)) skip 0 ≡ i = rw s at (counting_found f end i (skip - left) g.counted h own) in
-            sym (rw (lt-ltb skip (length (filter f (below end))) less, is))
+            (sym (rw (lt-ltb skip (length (filter f (below end))) less, is)), found_one z)
 
     pub next_none : end ≤ i → Next None
     unfolding reducing
     next_none h =
         let all : skip - left ≡ length (filter f (below end)) = counting_done f end i (skip - left) g.counted h in
         let few : length (filter f (below end)) ≤ skip = omega arith in
-        sym (rw (le-ltb skip (length (filter f (below end))) few))
+        let is : now left ≡ sought_from steps 0 (now skip) = sym (sought_past (drop i steps) i (now left) refl h) ∙ g.sought in
+        (sym (rw (le-ltb skip (length (filter f (below end))) few)), ap number_found is)

@@ -1,6 +1,6 @@
 -- "The receiver applies a relation's steps in program order." The search for the next step of a relation, step by step, and what it
 -- finds: of the numbers of the relation's steps, the one behind so many.
-use Rattle.std.specs.Prelude.{ℕ, Bool, ◌+◌, ◌-◌, ◌≤◌, ◌<◌, ◌≡◌, true, false, List, [], ◌∷◌, slice_index, nat_le, nat_eq}
+use Rattle.std.specs.Prelude.{ℕ, Bool, ◌+◌, ◌-◌, ◌≤◌, ◌<◌, ◌≡◌, true, false, min, Option, Some, None, List, [], ◌∷◌, length, slice_index, nat_le, nat_eq}
 use Rattle.ground.specs.Tests.{pick}
 use Rattle.papers.specs.Programs.{steps_of}
 use Rattle.paths.specs.declared.steps.Step.{Step}
@@ -30,6 +30,16 @@ seen_of c s at =
 unfoldable pub sought_from : List Step → ℕ → Search → Search
 sought_from [] i c = c
 sought_from (s ∷ steps) i c = sought_from steps (i + 1) (seen_of c s i)
+
+-- a search through lent steps for the one of a relation behind so many, of those below n, and the number that it has found
+abbrev pub search_for : ℕ → ℕ → ℕ → Search
+search_for r skip end = record { relation = r; skip = skip; end = end; found = false; at = 0 }
+
+abbrev pub number_found : Search → Option ℕ
+number_found c = pick c.found (Some c.at) None
+
+abbrev pub sought_next : List Step → ℕ → ℕ → ℕ → Option ℕ
+sought_next steps r skip n = number_found (sought_from steps 0 (search_for r skip (min n (length steps))))
 
 -- what a search behind so many steps of r says of the steps of r below n: the next one is found, or all of them were passed over
 pub record Found (p : Program) (r skip n : ℕ) (c : Search) : Type 0 where

@@ -3,6 +3,7 @@ ghost use Rattle.std.specs.Prelude.{◌≡◌, Some, None, length, slice_index, 
 ghost use Rattle.ground.specs.Tests.{pick};
 ghost use Rattle.papers.specs.Programs.{steps_of};
 ghost use Rattle.ends.specs.Reducing.{step_count, step_of, reducing, steps_before, missing_of};
+ghost use Rattle.ends.specs.Searching.{sought_next};
 
 use papers::programs::Program;
 use paths::steps::Step;
@@ -54,7 +55,7 @@ pub fn steps_before(program: Program, relation: u8, n: usize) -> u32
 
 // The lent steps are looked through for the next one of a relation behind so many of its steps, of those below n: its number.
 fn next_step(steps: &[Step], relation: u8, skip: u32, n: usize) -> Option<usize>
-    ensures { result ≡ pick (nat_lt skip (length (reducing steps.now relation n))) (Some (slice_index (reducing steps.now relation n) skip)) None }
+    ensures { (result ≡ pick (nat_lt skip (length (reducing steps.now relation n))) (Some (slice_index (reducing steps.now relation n) skip)) None) × (result ≡ sought_next steps.now relation skip n) }
 {
     let mut left = skip;
     for i in 0..n.min(steps.len()) {

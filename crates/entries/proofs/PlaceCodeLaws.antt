@@ -17,7 +17,7 @@ use Rattle.entries.specs.Places.{place, same_place, place_at}
 use Rattle.entries.specs.declared.places.Place.{Place}
 use Rattle.entries.specs.declared.relations.Relation.{Relation}
 
--- the equality of places that is derived is that of specs
+-- what the derived equality of places answers is what specs say of two
 pub same_is : (a b : Place) (t : Bool) → t ≡ (eqb a.relation b.relation && eqb a.column b.column) → t ≡ same_place a b
 unfolding same_place
 same_is a b t e = e

@@ -96,7 +96,7 @@ fn join_of(
     if domain_of(relations, left) != domain_of(relations, right) {
         return Err(Reason::TwoDomains.at(start));
     }
-    if left == right {
+    if crate::places::same_place(left, right) {
         return Err(Reason::SameColumn.at(start));
     }
     let kind = ClauseKind::Join { left, right };

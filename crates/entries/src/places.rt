@@ -2,7 +2,7 @@
 ghost use Rattle.std.specs.Prelude.{◌≡◌, slice_index_or};
 ghost use Rattle.ground.specs.Outcome.{read_of};
 ghost use Rattle.entries.specs.Relations.{past_relation, column_count};
-ghost use Rattle.entries.specs.Places.{no_place, named_column, place_at, place_bytes};
+ghost use Rattle.entries.specs.Places.{no_place, same_place, named_column, place_at, place_bytes};
 
 use crate::relations::{Column, Relation};
 use fields::numbers::Width;
@@ -24,6 +24,13 @@ impl Part for Place {
         let next = self.relation.put(out, at);
         self.column.put(out, next)
     }
+}
+
+// Whether two places are one: the same column of the same relation.
+pub fn same_place(a: Place, b: Place) -> bool
+    ensures { result ≡ same_place a b }
+{
+    a == b
 }
 
 // What stands in an array behind the last one; contracts name it.

@@ -1,6 +1,7 @@
 -- The laws of lists that are read into an array: one more, one refused, and the end; and of the count in front.
 use mathlib.Core.Path.{◌≡◌, refl, ap, sym, ◌∙◌}
-use Prim.Native.Nat.{ℕ, ◌+◌, ◌≤◌, ◌<◌}
+use Prim.Native.Nat.{ℕ, ◌+◌, ◌≤◌, ◌<◌, min}
+use native.Mathlib.Omega.{arith}
 use mathlib.Core.List.{List}
 use mathlib.Core.Logic.{◌⊎◌, inl, inr}
 use lib.ListN.{length, set}
@@ -29,6 +30,13 @@ module _ {A : Type 0} (size : ℕ) (z : A) (n at : ℕ) (item : ℕ → Outcome 
   many_done h =
       simp (filling_good size z (λ _. item) n at i p out f h)
       (ap (λ (l : List A). Ok (l, p)) (sym (filling_array size z (λ _. item) n at i p out f h)))
+
+-- as many as there is room for are all
+pub all_fit : {A : Type 0} (size : ℕ) (z : A) (n at : ℕ) (item : ℕ → Outcome A) (r : Result (List A × ℕ) Refusal) → n ≤ size
+    → r ≡ read_of (arrayed size z (many item (min n size) at)) → r ≡ read_of (arrayed size z (many item n at))
+all_fit size z n at item r h e =
+    let all : min n size ≡ n = omega arith in
+    e ∙ ap (λ (k : ℕ). read_of (arrayed size z (many item k at))) all
 
 -- ---- a count in front
 

@@ -1,6 +1,6 @@
 -- The laws of numbers at a position: one for each return of the functions that read them, and what an answer says.
 use mathlib.Core.Path.{◌≡◌, refl, ap, sym, ◌∙◌}
-use Prim.Native.Nat.{ℕ, ◌+◌, ◌*◌, ◌≤◌, ◌<◌}
+use Prim.Native.Nat.{ℕ, ◌+◌, ◌*◌, ◌≤◌, ◌<◌, min}
 use native.Mathlib.Nat.{mul-zero, add-zero, add_assoc}
 use native.Mathlib.Omega.{arith}
 use mathlib.Core.List.{List}
@@ -9,6 +9,7 @@ use lib.ListN.{length, get_or}
 use lib.Dec.{leb}
 use borrow.Author.Tests.{lt-leb, le-leb, leb-true, ltb-true}
 use Rattle.ground.specs.Tests.{pick}
+use Rattle.ground.proofs.CountLaws.{split}
 use Rattle.ground.specs.Bytes.{little_end}
 use Rattle.ground.specs.Outcome.{Outcome, next}
 use Rattle.ground.specs.Outcome.Outcome.{good, bad}
@@ -120,3 +121,23 @@ module _ (w : ℕ) (s : List ℕ) (at : ℕ) (r : Result (ℕ × ℕ) Refusal) (
 
   pub read_below : (limit : ℕ) → r ≡ read_of (number_below w limit s at) → v < limit
   read_below limit e = below_good w limit s at v p (read_good _ r v p e g)
+
+-- ---- a number of one byte is at most 255, so that a limit that is greater is none
+
+below_256 : (size v : ℕ) → v < 256 → leb v (min size 255) ≡ leb v size
+below_256 size v small =
+    split v size (λ h. le-leb v (min size 255) (omega arith) ∙ sym (le-leb v size h)) (λ h. lt-leb v (min size 255) (omega arith) ∙ sym (lt-leb v size h))
+
+limit_by : (low size at : ℕ) (o : Outcome ℕ) → ((v p : ℕ) → o ≡ good v p → v < 256)
+    → next o (λ v p. pick (between low (min size 255) v) (good v p) (bad BeyondLimit at))
+    ≡ next o (λ v p. pick (between low size v) (good v p) (bad BeyondLimit at))
+limit_by low size at (good v p) small =
+    ap (λ (b : Bool). pick (leb low v && b) (good v p) (bad BeyondLimit at)) (below_256 size v (small v p refl))
+limit_by low size at (bad m p) small = refl
+
+pub byte_limit : (low size high : ℕ) (s : List ℕ) (at : ℕ) (r : Result (ℕ × ℕ) Refusal) → r ≡ read_of (number_in 1 low high s at)
+    → high ≡ min size 255 → get_or s at 0 < 256 → r ≡ read_of (number_in 1 low size s at)
+unfolding number_that
+byte_limit low size high s at r h e small =
+    h ∙ ap (λ (x : ℕ). read_of (number_in 1 low x s at)) e
+    ∙ ap read_of (limit_by low size at (number_at 1 s at) (λ v p y. omega (arith, (at_good 1 s at v p y).2, one_byte s at)))

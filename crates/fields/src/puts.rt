@@ -1,10 +1,10 @@
 // Numbers put into a lent buffer, little end first, the parts of a paper put one behind the other, and bytes written to the front of one.
-ghost use Rattle.std.specs.Prelude.{◌≡◌, ◌≤◌, ℕ, ◌+◌, ◌*◌, List, [], ◌∷◌, ◌++◌, length, set};
+ghost use Rattle.std.specs.Prelude.{◌≡◌, ℕ, ◌+◌, ◌*◌, List, [], ◌∷◌, ◌++◌, length, set};
 ghost use Rattle.ground.specs.Lists.{each};
 ghost use Rattle.std.proofs.lemmas.List.Edits.{sets};
 ghost use Rattle.ground.specs.Bytes.{bytes_of};
 ghost use Rattle.fields.specs.Numbers.{bytes_wide};
-ghost use Rattle.fields.specs.Puts.{fitted, written_of, written_in, Puts, Fronts};
+ghost use Rattle.fields.specs.Puts.{fitted, written_of, written_in, PutsAnywhere, Fronts};
 
 use crate::numbers::Width;
 use ground::refusals::{Reason, Refusal};
@@ -46,16 +46,15 @@ pub fn put_number(out: &mut [u8], at: usize, width: Width, value: u32)
     }
 }
 
-// A part of a paper: its bytes, and how many they are at most. What is put answers the position past it; papers are far shorter than the
-// bound, so that positions fit.
+// A part of a paper: its bytes, and how many they are at most. It is put at any position, as far as the buffer goes, and answers the
+// position past it, or the greatest number where the position is greater.
 pub trait Part: Copy {
     ghost bytes: { Self → List ℕ };
 
     ghost most: { ℕ };
 
     fn put(self, out: &mut [u8], at: usize) -> usize
-        requires { at + most ≤ 100000 }
-        ensures { Puts out.old at most (bytes self) result out.new };
+        ensures { PutsAnywhere out.old at most (bytes self) result out.new };
 }
 
 impl Part for u8 {
@@ -65,7 +64,7 @@ impl Part for u8 {
 
     fn put(self, out: &mut [u8], at: usize) -> usize {
         put_number(out, at, Width::One, self as u32);
-        at + 1
+        at.saturating_add(1)
     }
 }
 
@@ -76,14 +75,13 @@ impl Part for u32 {
 
     fn put(self, out: &mut [u8], at: usize) -> usize {
         put_number(out, at, Width::Four, self);
-        at + 4
+        at.saturating_add(4)
     }
 }
 
 // Parts of a kind, one behind the other.
 pub fn put_all<P: Part>(out: &mut [u8], at: usize, parts: &[P]) -> usize
-    requires { at + P.most * length parts.now ≤ 100000 }
-    ensures { Puts out.old at (P.most * length parts.now) (each P.bytes parts.now) result out.new }
+    ensures { PutsAnywhere out.old at (P.most * length parts.now) (each P.bytes parts.now) result out.new }
 {
     let mut end = at;
     for part in parts {
@@ -94,8 +92,7 @@ pub fn put_all<P: Part>(out: &mut [u8], at: usize, parts: &[P]) -> usize
 
 // Their count of one byte, and they.
 pub fn put_list<P: Part>(out: &mut [u8], at: usize, count: u8, parts: &[P]) -> usize
-    requires { at + (1 + P.most * length parts.now) ≤ 100000 }
-    ensures { Puts out.old at (1 + P.most * length parts.now) (bytes_of 1 count ++ each P.bytes parts.now) result out.new }
+    ensures { PutsAnywhere out.old at (1 + P.most * length parts.now) (bytes_of 1 count ++ each P.bytes parts.now) result out.new }
 {
     let next = count.put(out, at);
     put_all(out, next, parts)

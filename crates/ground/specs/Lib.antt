@@ -1,6 +1,7 @@
--- What every definition above is written with, no word of the field in it: Tests, Lists, Bytes (numbers as bytes), Outcome (what a
--- reading or a call gives), Refusing (of tests in order the first that fails refuses), Searching (the first number at which a test holds),
--- Rising, Least and Order of lists, Choice (the first of greatest gain), Figures (what definitions give, and what a paper says).
+-- What every definition above is written with, no word of the field in it, but for Refusals (01's table of the numbers that we refuse by):
+-- Tests, Lists, Bytes (numbers as bytes), Outcome (what a reading or a call gives), Refusing (of tests in order the first that fails
+-- refuses), Searching (the first number at which a test holds), Rising, Least and Order of lists, Choice (the first of greatest gain),
+-- Figures (what definitions give, and what a paper says).
 pub mod Tests
 pub mod Refusals
 pub mod Lists

@@ -1,10 +1,10 @@
 // Why something is refused, and at which position: 01's table of the numbers that we refuse by. specs/Refusals.antt has the numbers.
-ghost use Rattle.std.specs.Prelude.{◌≡◌};
-ghost use Rattle.ground.specs.Refusals.{number_of, refusal};
+ghost use Rattle.std.specs.Prelude.{◌≡◌, Some};
+ghost use Rattle.ground.specs.Refusals.{number_of, refusal, refusal_text};
 
 use std::fmt;
 
-// A comment says which position goes with the reason.
+// A comment says which position goes with the reason, where that is not 0.
 #[derive(Clone, Copy, PartialEq, Eq)]
 pub enum Reason {
     // The paper ends inside a field, with the start of that field; a message has under 3 words, with 0.
@@ -71,6 +71,8 @@ impl From<Reason> for u8 {
 }
 
 impl fmt::Display for Refusal {
+    ghost output = { λ x. Some (refusal_text x) };
+
     fn fmt<W: fmt::Write>(&self, f: &mut fmt::Formatter<W>) -> fmt::Result {
         let number = u8::from(self.reason);
         let position = self.position;

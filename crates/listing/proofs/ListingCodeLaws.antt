@@ -1,5 +1,5 @@
 -- The laws of the listing: its parts put one behind the other are its lines.
-use mathlib.Core.Path.{◌≡◌, ap, subst, ◌∙◌}
+use mathlib.Core.Path.{◌≡◌, refl, ap, subst, ◌∙◌}
 use mathlib.Core.List.{List, ◌++◌}
 use Prim.Native.Nat.{ℕ, ◌+◌, ◌≤◌}
 use native.Mathlib.Nat.{zero-add}
@@ -10,14 +10,13 @@ use Rattle.ground.proofs.PuttingLaws.{putting_done, putting_place}
 use Rattle.ground.proofs.WritingLaws.{Writing}
 use Rattle.ground.specs.Lists.{each}
 use Rattle.std.specs.Prelude.{Result, Ok, Err}
-use Rattle.ground.specs.Refusals.{number_of}
 use Rattle.ground.specs.declared.refusals.Refusal.{Refusal}
 use Rattle.fields.specs.Puts.{Puts, Fronts}
 use Rattle.paths.specs.declared.steps.Step.{Step}
 use Rattle.estimates.specs.declared.lines.Line.{Line}
 use Rattle.planner.specs.declared.plans.Plan.{Plan}
 use Rattle.listing.specs.Text.{text, decimal, behind}
-use Rattle.listing.specs.Listing.{heading, step_text, step_line, last_line, refused_line, plan_lines, listing}
+use Rattle.listing.specs.Listing.{heading, step_text, step_line, last_line, refused_line, plan_lines, listing_of, numbered, listing}
 use Rattle.listing.proofs.TextLaws.{both_put, three_put, four_put}
 
 module _ (o x y z t : List ℕ) (at a b c r : ℕ) where
@@ -57,12 +56,11 @@ lines_put lines before at i p out w h few =
     )
 
 module _ (o x y t : List ℕ) (a b r : ℕ) where
-  pub refusal_put : (f : Refusal) (number : ℕ) → number ≡ number_of f.reason → Puts o 0 28 (behind "refused " number) a x
-      → Puts x a 21 (behind " " f.position) b y → Puts y b 1 (text "\n") r t
-      → Puts o 0 50 (refused_line (number_of f.reason) f.position) r t
+  pub refusal_put : (number position : ℕ) → Puts o 0 28 (behind "refused " number) a x → Puts x a 21 (behind " " position) b y
+      → Puts y b 1 (text "\n") r t → Puts o 0 50 (refused_line number position) r t
   unfolding refused_line
-  refusal_put f number e u g h =
-      three_put o x y 0 a b 28 21 1 (behind "refused " (number_of f.reason)) (behind " " f.position) (text "\n") (rw e at u) g t r h
+  refusal_put number position u g h =
+      three_put o x y 0 a b 28 21 1 (behind "refused " number) (behind " " position) (text "\n") u g t r h
 
   pub plan_put : (p : Plan) (lines : List Line) → lines ≡ take p.count p.lines → Puts o 0 38 heading a x
       → Puts x a 19656 (each step_line lines) b y → Puts y b 110 (last_line p) r t → Puts o 0 19804 (plan_lines p) r t
@@ -72,15 +70,22 @@ module _ (o x y t : List ℕ) (a b r : ℕ) where
 
 -- ---- a plan, or the refusal
 
-module _ (o t : List ℕ) (r : ℕ) (a : Result Plan Refusal) where
-  pub listing_taken : (f : Plan) → a ≡ Ok f → Puts o 0 19804 (plan_lines f) r t → Fronts o 19804 (listing a) r t
-  unfolding listing
+module _ (o t : List ℕ) (r : ℕ) (a : Result Plan (ℕ × ℕ)) where
+  pub listing_taken : (f : Plan) → a ≡ Ok f → Puts o 0 19804 (plan_lines f) r t → Fronts o 19804 (listing_of a) r t
+  unfolding listing_of
   listing_taken f e (p, q, u) = rw e (p ∙ zero-add (length (plan_lines f)), q, omega arith)
 
-  pub listing_refused : (x : Refusal) → a ≡ Err x → Puts o 0 50 (refused_line (number_of x.reason) x.position) r t
-      → Fronts o 19804 (listing a) r t
-  unfolding listing
-  listing_refused x e (p, q, u) = rw e (p ∙ zero-add (length (refused_line (number_of x.reason) x.position)), q, omega arith)
+  pub listing_refused : (number position : ℕ) → a ≡ Err (number, position) → Puts o 0 50 (refused_line number position) r t
+      → Fronts o 19804 (listing_of a) r t
+  unfolding listing_of
+  listing_refused number position e (p, q, u) = rw e (p ∙ zero-add (length (refused_line number position)), q, omega arith)
 
-pub listed : (p q : Result Plan Refusal) (o t : List ℕ) (r : ℕ) → p ≡ q → Fronts o 19804 (listing p) r t → Fronts o 19804 (listing q) r t
-listed p q o t r e f = subst (λ (x : Result Plan Refusal). Fronts o 19804 (listing x) r t) e f
+-- what is listed of a plan with its refusal's number is its listing
+pub numbered_listing : (p : Result Plan Refusal) → listing_of (numbered p) ≡ listing p
+unfolding listing_of numbered listing
+numbered_listing (Ok p) = refl
+numbered_listing (Err x) = refl
+
+pub listed : (p q : Result Plan Refusal) (n : Result Plan (ℕ × ℕ)) (o t : List ℕ) (r : ℕ) → p ≡ q → n ≡ numbered p
+    → Fronts o 19804 (listing_of n) r t → Fronts o 19804 (listing q) r t
+listed p q n o t r e g f = subst (λ (l : List ℕ). Fronts o 19804 l r t) (rw (g, e) (numbered_listing q)) f

@@ -30,6 +30,15 @@ refused_line number position = behind "refused " number ++ behind " " position +
 unfoldable pub plan_lines : Plan → List ℕ
 plan_lines p = heading ++ each step_line (lines_in p) ++ last_line p
 
+-- a plan, or the number and the position that it is refused by
+unfoldable pub listing_of : Result Plan (ℕ × ℕ) → List ℕ
+listing_of (Ok p) = plan_lines p
+listing_of (Err (number, position)) = refused_line number position
+
+unfoldable pub numbered : Result Plan Refusal → Result Plan (ℕ × ℕ)
+numbered (Ok p) = Ok p
+numbered (Err x) = Err (number_of x.reason, x.position)
+
 unfoldable pub listing : Result Plan Refusal → List ℕ
 listing (Ok p) = plan_lines p
 listing (Err x) = refused_line (number_of x.reason) x.position

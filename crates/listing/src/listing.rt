@@ -1,12 +1,11 @@
 // The lines that are printed of a plan: its heading, its steps, its last line; or the refusal alone.
-ghost use Rattle.std.specs.Prelude.{◌≤◌, length};
+ghost use Rattle.std.specs.Prelude.{◌≡◌, ◌≤◌, length};
 ghost use Rattle.ground.specs.Lists.{each};
 ghost use Rattle.ground.specs.Outcome.{taken_of};
-ghost use Rattle.ground.specs.Refusals.{number_of};
 ghost use Rattle.fields.specs.Puts.{Puts, Fronts};
 ghost use Rattle.envelopes.specs.Envelope.{read_envelope};
 ghost use Rattle.planner.specs.Plan.{plan_of};
-ghost use Rattle.listing.specs.Listing.{step_text, step_line, last_line, plan_lines, refused_line, listing};
+ghost use Rattle.listing.specs.Listing.{step_text, step_line, last_line, plan_lines, refused_line, listing_of, numbered, listing};
 
 use crate::texts;
 use estimates::lines::Line;
@@ -70,22 +69,33 @@ fn put_plan(out: &mut [u8], plan: Plan) -> usize
 }
 
 // The words that a refusal prints, as bytes: what a formatter promises does not say how far a short buffer goes.
-fn put_refusal(out: &mut [u8], refusal: Refusal) -> usize
-    ensures { Puts out.old 0 50 (refused_line (number_of refusal.reason) refusal.position) result out.new }
+fn put_refusal(out: &mut [u8], number: u8, position: usize) -> usize
+    ensures { Puts out.old 0 50 (refused_line number position) result out.new }
 {
-    let number = u8::from(refusal.reason);
     let a = texts::put_behind(out, 0, b"refused ", number as u64);
-    let b = texts::put_behind(out, a, b" ", refusal.position as u64);
+    let b = texts::put_behind(out, a, b" ", position as u64);
     texts::put_words(out, b, b"\n")
 }
 
-// The listing of a plan, or of the refusal, at the front of a buffer, as far as the buffer goes; and its length.
-pub fn put_listing(out: &mut [u8], plan: Result<Plan, Refusal>) -> usize
-    ensures { Fronts out.old 19804 (listing plan) result out.new }
+// The listing of a plan, or of what it is refused by, whatever number that is, at the front of a buffer, as far as the buffer goes; and
+// its length.
+pub fn put_listing(out: &mut [u8], plan: Result<Plan, (u8, usize)>) -> usize
+    ensures { Fronts out.old 19804 (listing_of plan) result out.new }
 {
     match plan {
         Ok(plan) => put_plan(out, plan),
-        Err(refusal) => put_refusal(out, refusal),
+        Err((number, position)) => put_refusal(out, number, position),
+    }
+}
+
+// A plan, or the number and the position that it is refused by.
+#[tactic(auto, unfolding(crate::specs::Listing::numbered))]
+fn numbered(plan: Result<Plan, Refusal>) -> Result<Plan, (u8, usize)>
+    ensures { result ≡ numbered plan }
+{
+    match plan {
+        Ok(plan) => Ok(plan),
+        Err(refusal) => Err((u8::from(refusal.reason), refusal.position)),
     }
 }
 
@@ -94,5 +104,5 @@ pub fn list_paper(out: &mut [u8], paper: &[u8]) -> usize
     ensures { Fronts out.old 19804 (listing (taken_of (plan_of (read_envelope paper.now)))) result out.new }
 {
     let plan = planner::planner::plan_paper(paper);
-    put_listing(out, plan)
+    put_listing(out, numbered(plan))
 }

@@ -8,8 +8,6 @@ use Rattle.ground.specs.Lists.{each, below}
 use Rattle.ground.specs.Outcome.{Outcome}
 use Rattle.ground.specs.Outcome.Outcome.{good, bad}
 use Rattle.ground.specs.Refusals.{number_of}
-use Rattle.ground.specs.declared.refusals.Reason.{Reason}
-use Rattle.ground.specs.declared.refusals.Reason.TheVariants.{EndsInside, WrongMark, WrongVersion, BeyondLimit, TwoDomains, SameColumn, LeftOver, NotLegal, NoKeptColumn}
 use Rattle.entries.specs.Relations.{relation_with}
 use Rattle.entries.specs.Places.{place}
 use Rattle.entries.specs.Clauses.{clause}
@@ -38,8 +36,8 @@ seen (bad n p) = number_of n ∷ p ∷ []
 abbrev pub taken : ℕ → List ℕ
 taken p = 0 ∷ p ∷ []
 
-abbrev pub refused : Reason → ℕ → List ℕ
-refused n p = number_of n ∷ p ∷ []
+abbrev pub refused : ℕ → ℕ → List ℕ
+refused n p = n ∷ p ∷ []
 
 -- a paper with one byte replaced
 abbrev pub put : ℕ → ℕ → List ℕ → List ℕ
@@ -110,31 +108,31 @@ runs s = seen (read_program small_asked s)
 abbrev pub ends : List Figure
 ends =
     reads small gives taken 54
-    ∷ reads [] gives refused EndsInside 0
-    ∷ reads (67 ∷ 88 ∷ []) gives refused EndsInside 0
+    ∷ reads [] gives refused 1 0
+    ∷ reads (67 ∷ 88 ∷ []) gives refused 1 0
     -- every cut
-    ∷ each (λ n. reads (take n small)) (below 54) gives each (refused EndsInside) (
+    ∷ each (λ n. reads (take n small)) (below 54) gives each (refused 1) (
     0 ∷ 0 ∷ 0 ∷ 3 ∷ 3 ∷ 5 ∷ 6 ∷ 6 ∷ 6 ∷ 6 ∷ 10 ∷ 10 ∷ 10 ∷ 10 ∷ 14 ∷ 15 ∷ 16 ∷ 17 ∷ 17 ∷ 17 ∷ 17
     ∷ 21 ∷ 22 ∷ 23 ∷ 23 ∷ 23 ∷ 23 ∷ 27 ∷ 28 ∷ 29 ∷ 29 ∷ 29 ∷ 29
     ∷ 33 ∷ 34 ∷ 35 ∷ 35 ∷ 35 ∷ 35 ∷ 39 ∷ 40 ∷ 41 ∷ 41 ∷ 41 ∷ 41 ∷ 45 ∷ 46 ∷ 47 ∷ 48 ∷ 49 ∷ 50 ∷ 51 ∷ 52 ∷ 53 ∷ [])
     ∷ runs (program 1 there) gives taken 11
-    ∷ each (λ n. runs (take n (program 1 there))) (below 11) gives each (refused EndsInside) (0 ∷ 0 ∷ 0 ∷ 3 ∷ 3 ∷ 5 ∷ 6 ∷ 7 ∷ 8 ∷ 9 ∷ 10 ∷ [])
+    ∷ each (λ n. runs (take n (program 1 there))) (below 11) gives each (refused 1) (0 ∷ 0 ∷ 0 ∷ 3 ∷ 3 ∷ 5 ∷ 6 ∷ 7 ∷ 8 ∷ 9 ∷ 10 ∷ [])
     ∷ []
 
 -- ---- 2, 3: mark; version: start
 
 abbrev pub heads : List Figure
 heads =
-    reads (put 2 110 small) gives refused WrongMark 0
-    ∷ reads (67 ∷ 80 ∷ 88 ∷ []) gives refused WrongMark 0
-    ∷ reads (put 3 7 (put 0 83 small)) gives refused WrongMark 0
-    ∷ runs (take 5 small) gives refused WrongMark 0
-    ∷ each (λ v. reads (put 3 v small)) (0 ∷ 2 ∷ 255 ∷ []) gives repeated 3 (refused WrongVersion 3)
+    reads (put 2 110 small) gives refused 2 0
+    ∷ reads (67 ∷ 80 ∷ 88 ∷ []) gives refused 2 0
+    ∷ reads (put 3 7 (put 0 83 small)) gives refused 2 0
+    ∷ runs (take 5 small) gives refused 2 0
+    ∷ each (λ v. reads (put 3 v small)) (0 ∷ 2 ∷ 255 ∷ []) gives repeated 3 (refused 3 3)
     -- the version is one number of 16 bits
-    ∷ reads (put 3 0 (put 4 1 small)) gives refused WrongVersion 3
-    ∷ reads (put 4 1 small) gives refused WrongVersion 3
-    ∷ reads (take 5 (put 3 2 small)) gives refused WrongVersion 3
-    ∷ runs (put 3 2 (program 0 [])) gives refused WrongVersion 3
+    ∷ reads (put 3 0 (put 4 1 small)) gives refused 3 3
+    ∷ reads (put 4 1 small) gives refused 3 3
+    ∷ reads (take 5 (put 3 2 small)) gives refused 3 3
+    ∷ runs (put 3 2 (program 0 [])) gives refused 3 3
     ∷ []
 
 -- ---- 4: a number beyond its limit or naming nothing: start
@@ -142,54 +140,54 @@ heads =
 abbrev pub limits : List Figure
 limits =
     -- domains 1 to 16, each of size 1 to 16,777,215
-    each (λ v. reads (put 5 v small)) (0 ∷ 17 ∷ 255 ∷ []) gives repeated 3 (refused BeyondLimit 5)
-    ∷ reads (put 6 0 small) gives refused BeyondLimit 6
+    each (λ v. reads (put 5 v small)) (0 ∷ 17 ∷ 255 ∷ []) gives repeated 3 (refused 4 5)
+    ∷ reads (put 6 0 small) gives refused 4 6
     ∷ reads (put 6 255 (put 7 255 (put 8 255 small))) gives taken 54
-    ∷ reads (put 6 0 (put 9 1 small)) gives refused BeyondLimit 6
-    ∷ reads (put 10 0 small) gives refused BeyondLimit 10
+    ∷ reads (put 6 0 (put 9 1 small)) gives refused 4 6
+    ∷ reads (put 10 0 small) gives refused 4 10
     -- relations 1 to 8, sites 0 to 7, columns 1 to 8 each
-    ∷ each (λ v. reads (put 14 v small)) (0 ∷ 9 ∷ []) gives repeated 2 (refused BeyondLimit 14)
-    ∷ each (λ v. reads (put 15 v small)) (0 ∷ 7 ∷ 8 ∷ []) gives (taken 54 ++ taken 54 ++ refused BeyondLimit 15)
-    ∷ each (λ v. reads (put 16 v small)) (0 ∷ 9 ∷ []) gives repeated 2 (refused BeyondLimit 16)
+    ∷ each (λ v. reads (put 14 v small)) (0 ∷ 9 ∷ []) gives repeated 2 (refused 4 14)
+    ∷ each (λ v. reads (put 15 v small)) (0 ∷ 7 ∷ 8 ∷ []) gives (taken 54 ++ taken 54 ++ refused 4 15)
+    ∷ each (λ v. reads (put 16 v small)) (0 ∷ 9 ∷ []) gives repeated 2 (refused 4 16)
     -- rows 0 to 1,000,000
-    ∷ each (λ v. reads (put 17 v (put 18 66 (put 19 15 small)))) (64 ∷ 65 ∷ []) gives (taken 54 ++ refused BeyondLimit 17)
+    ∷ each (λ v. reads (put 17 v (put 18 66 (put 19 15 small)))) (64 ∷ 65 ∷ []) gives (taken 54 ++ refused 4 17)
     -- a domain that exists, width 1 to 255
-    ∷ each (λ v. reads (put 21 v small)) (1 ∷ 2 ∷ []) gives (refused TwoDomains 46 ++ refused BeyondLimit 21)
-    ∷ each (λ v. reads (put 22 v small)) (0 ∷ 1 ∷ 255 ∷ []) gives (refused BeyondLimit 22 ++ taken 54 ++ taken 54)
+    ∷ each (λ v. reads (put 21 v small)) (1 ∷ 2 ∷ []) gives (refused 5 46 ++ refused 4 21)
+    ∷ each (λ v. reads (put 22 v small)) (0 ∷ 1 ∷ 255 ∷ []) gives (refused 4 22 ++ taken 54 ++ taken 54)
     -- distinct at most the rows, at most the domain size, 0 exactly when rows are 0
-    ∷ each (λ v. reads (put 23 v small)) (0 ∷ 1 ∷ 5 ∷ 6 ∷ []) gives (refused BeyondLimit 23 ++ taken 54 ++ taken 54 ++ refused BeyondLimit 23)
-    ∷ each (λ v. reads (put 17 100 (put 23 v small))) (10 ∷ 11 ∷ []) gives (taken 54 ++ refused BeyondLimit 23)
-    ∷ reads (put 17 0 small) gives refused BeyondLimit 23
+    ∷ each (λ v. reads (put 23 v small)) (0 ∷ 1 ∷ 5 ∷ 6 ∷ []) gives (refused 4 23 ++ taken 54 ++ taken 54 ++ refused 4 23)
+    ∷ each (λ v. reads (put 17 100 (put 23 v small))) (10 ∷ 11 ∷ []) gives (taken 54 ++ refused 4 23)
+    ∷ reads (put 17 0 small) gives refused 4 23
     ∷ reads (put 17 0 (put 23 0 (put 29 0 small))) gives taken 54
     -- clauses: a kind, relations and columns that exist, each judged at once
-    ∷ each (λ v. reads (put 46 v small)) (0 ∷ 3 ∷ []) gives repeated 2 (refused BeyondLimit 46)
-    ∷ reads (put 47 2 small) gives refused BeyondLimit 47
-    ∷ reads (put 48 2 small) gives refused BeyondLimit 48
-    ∷ reads (put 49 2 small) gives refused BeyondLimit 49
-    ∷ reads (put 50 1 small) gives refused BeyondLimit 50
-    ∷ reads (take 48 (put 47 2 small)) gives refused BeyondLimit 47
+    ∷ each (λ v. reads (put 46 v small)) (0 ∷ 3 ∷ []) gives repeated 2 (refused 4 46)
+    ∷ reads (put 47 2 small) gives refused 4 47
+    ∷ reads (put 48 2 small) gives refused 4 48
+    ∷ reads (put 49 2 small) gives refused 4 49
+    ∷ reads (put 50 1 small) gives refused 4 50
+    ∷ reads (take 48 (put 47 2 small)) gives refused 4 47
     -- targets 1 to 16
-    ∷ each (λ v. reads (put 51 v small)) (0 ∷ 17 ∷ []) gives repeated 2 (refused BeyondLimit 51)
-    ∷ reads (put 52 2 small) gives refused BeyondLimit 52
-    ∷ reads (put 53 2 small) gives refused BeyondLimit 53
+    ∷ each (λ v. reads (put 51 v small)) (0 ∷ 17 ∷ []) gives repeated 2 (refused 4 51)
+    ∷ reads (put 52 2 small) gives refused 4 52
+    ∷ reads (put 53 2 small) gives refused 4 53
     ∷ reads (take 51 small ++ 16 ∷ repeated 16 (0 ∷ 1 ∷ [])) gives taken 84
     -- 12 clauses pass, 13 give 4; a selection value is any number
     ∷ reads (take 45 small ++ 12 ∷ repeated 12 (1 ∷ 1 ∷ 0 ∷ 255 ∷ 255 ∷ 255 ∷ 255 ∷ []) ++ 1 ∷ 0 ∷ 0 ∷ []) gives taken 133
-    ∷ reads (take 45 small ++ 13 ∷ repeated 13 (1 ∷ 1 ∷ 0 ∷ 255 ∷ 255 ∷ 255 ∷ 255 ∷ []) ++ 1 ∷ 0 ∷ 0 ∷ []) gives refused BeyondLimit 45
+    ∷ reads (take 45 small ++ 13 ∷ repeated 13 (1 ∷ 1 ∷ 0 ∷ 255 ∷ 255 ∷ 255 ∷ 255 ∷ []) ++ 1 ∷ 0 ∷ 0 ∷ []) gives refused 4 45
     -- the assembly site must hold a relation, judged before the count
     ∷ each (λ v. runs (put 5 v (program 0 []))) (1 ∷ 2 ∷ 0 ∷ 3 ∷ 255 ∷ [])
-    gives (taken 7 ++ taken 7 ++ refused BeyondLimit 5 ++ refused BeyondLimit 5 ++ refused BeyondLimit 5)
-    ∷ runs (take 6 (put 5 3 (program 0 []))) gives refused BeyondLimit 5
+    gives (taken 7 ++ taken 7 ++ refused 4 5 ++ refused 4 5 ++ refused 4 5)
+    ∷ runs (take 6 (put 5 3 (program 0 []))) gives refused 4 5
     -- 156 steps pass, 157 give 4
     ∷ runs (program 156 (repeated 78 (there ++ back))) gives taken 631
-    ∷ runs (program 157 (repeated 157 there)) gives refused BeyondLimit 6
-    ∷ runs (program 157 []) gives refused BeyondLimit 6
+    ∷ runs (program 157 (repeated 157 there)) gives refused 4 6
+    ∷ runs (program 157 []) gives refused 4 6
     -- a step's numbers
-    ∷ runs (program 1 (put 0 2 there)) gives refused BeyondLimit 7
-    ∷ runs (program 1 (put 1 2 there)) gives refused BeyondLimit 8
-    ∷ runs (program 1 (put 2 2 there)) gives refused BeyondLimit 9
-    ∷ runs (program 1 (put 3 1 there)) gives refused BeyondLimit 10
-    ∷ runs (program 1 (2 ∷ [])) gives refused BeyondLimit 7
+    ∷ runs (program 1 (put 0 2 there)) gives refused 4 7
+    ∷ runs (program 1 (put 1 2 there)) gives refused 4 8
+    ∷ runs (program 1 (put 2 2 there)) gives refused 4 9
+    ∷ runs (program 1 (put 3 1 there)) gives refused 4 10
+    ∷ runs (program 1 (2 ∷ [])) gives refused 4 7
     ∷ []
 
 -- ---- 5 to 9
@@ -197,30 +195,30 @@ limits =
 abbrev pub rules : List Figure
 rules =
     -- 5, 6: join of two domains, also inside a relation; of a column with itself: start of clause
-    reads (put 48 1 small) gives refused TwoDomains 46
-    ∷ reads (put 48 1 (put 49 0 small)) gives refused TwoDomains 46
-    ∷ reads (put 49 0 small) gives refused SameColumn 46
+    reads (put 48 1 small) gives refused 5 46
+    ∷ reads (put 48 1 (put 49 0 small)) gives refused 5 46
+    ∷ reads (put 49 0 small) gives refused 6 46
     -- not before the last number of the clause is whole and in range
-    ∷ reads (take 50 (put 48 1 small)) gives refused EndsInside 50
-    ∷ reads (put 48 1 (put 50 1 small)) gives refused BeyondLimit 50
+    ∷ reads (take 50 (put 48 1 small)) gives refused 1 50
+    ∷ reads (put 48 1 (put 50 1 small)) gives refused 4 50
     -- the second clause
-    ∷ reads (take 45 small ++ 2 ∷ repeated 2 (2 ∷ there)) gives refused EndsInside 56
-    ∷ reads (take 45 small ++ 2 ∷ 2 ∷ there ++ 2 ∷ 0 ∷ 0 ∷ 0 ∷ 0 ∷ []) gives refused SameColumn 51
-    ∷ reads (take 45 small ++ 2 ∷ 2 ∷ there ++ 2 ∷ 0 ∷ 1 ∷ 1 ∷ 0 ∷ []) gives refused TwoDomains 51
+    ∷ reads (take 45 small ++ 2 ∷ repeated 2 (2 ∷ there)) gives refused 1 56
+    ∷ reads (take 45 small ++ 2 ∷ 2 ∷ there ++ 2 ∷ 0 ∷ 0 ∷ 0 ∷ 0 ∷ []) gives refused 6 51
+    ∷ reads (take 45 small ++ 2 ∷ 2 ∷ there ++ 2 ∷ 0 ∷ 1 ∷ 1 ∷ 0 ∷ []) gives refused 5 51
     -- 7: bytes left over: first of them
-    ∷ reads (small ++ 0 ∷ []) gives refused LeftOver 54
-    ∷ runs (program 1 there ++ 1 ∷ 2 ∷ []) gives refused LeftOver 11
+    ∷ reads (small ++ 0 ∷ []) gives refused 7 54
+    ∷ runs (program 1 there ++ 1 ∷ 2 ∷ []) gives refused 7 11
     -- 8: step not legal, off a path or within a relation: step number
-    ∷ runs (program 1 (put 1 1 there)) gives refused NotLegal 0
-    ∷ runs (program 1 (0 ∷ 0 ∷ 0 ∷ 1 ∷ [])) gives refused NotLegal 0
-    ∷ runs (program 1 (0 ∷ 0 ∷ 0 ∷ 0 ∷ [])) gives refused NotLegal 0
-    ∷ runs (program 2 (there ++ put 1 1 there)) gives refused NotLegal 1
-    ∷ runs (program 156 (repeated 155 back ++ 0 ∷ 1 ∷ 1 ∷ 0 ∷ [])) gives refused NotLegal 155
-    ∷ runs (program 1 (0 ∷ 1 ∷ 1 ∷ [])) gives refused EndsInside 10
+    ∷ runs (program 1 (put 1 1 there)) gives refused 8 0
+    ∷ runs (program 1 (0 ∷ 0 ∷ 0 ∷ 1 ∷ [])) gives refused 8 0
+    ∷ runs (program 1 (0 ∷ 0 ∷ 0 ∷ 0 ∷ [])) gives refused 8 0
+    ∷ runs (program 2 (there ++ put 1 1 there)) gives refused 8 1
+    ∷ runs (program 156 (repeated 155 back ++ 0 ∷ 1 ∷ 1 ∷ 0 ∷ [])) gives refused 8 155
+    ∷ runs (program 1 (0 ∷ 1 ∷ 1 ∷ [])) gives refused 1 10
     -- 9: relation with no kept column: its number; 7 comes first
-    ∷ reads (take 45 small ++ 0 ∷ 1 ∷ 0 ∷ 1 ∷ []) gives refused NoKeptColumn 1
-    ∷ reads (take 45 small ++ 0 ∷ 1 ∷ 1 ∷ 0 ∷ []) gives refused NoKeptColumn 0
-    ∷ reads (take 45 small ++ 0 ∷ 1 ∷ 1 ∷ 0 ∷ 0 ∷ []) gives refused LeftOver 49
+    ∷ reads (take 45 small ++ 0 ∷ 1 ∷ 0 ∷ 1 ∷ []) gives refused 9 1
+    ∷ reads (take 45 small ++ 0 ∷ 1 ∷ 1 ∷ 0 ∷ []) gives refused 9 0
+    ∷ reads (take 45 small ++ 0 ∷ 1 ∷ 1 ∷ 0 ∷ 0 ∷ []) gives refused 7 49
     ∷ reads (take 45 small ++ 0 ∷ 2 ∷ 0 ∷ 1 ∷ 1 ∷ 0 ∷ []) gives taken 51
     ∷ []
 
@@ -245,21 +243,21 @@ abbrev pub structs : List Figure
 structs =
     seen (check_envelope (stuffed 1 2 2 1 1)) gives taken 54
     ∷ envelope_bytes (stuffed 1 2 2 1 1) gives small
-    ∷ each (λ v. seen (check_envelope (stuffed v 2 2 1 1))) (0 ∷ 2 ∷ 257 ∷ []) gives repeated 3 (refused WrongVersion 3)
+    ∷ each (λ v. seen (check_envelope (stuffed v 2 2 1 1))) (0 ∷ 2 ∷ 257 ∷ []) gives repeated 3 (refused 3 3)
     ∷ each (λ n. seen (check_envelope (stuffed 1 n 2 1 1))) (0 ∷ 3 ∷ 17 ∷ 255 ∷ [])
-    gives (refused BeyondLimit 5 ++ refused BeyondLimit 14 ++ refused BeyondLimit 5 ++ refused BeyondLimit 5)
+    gives (refused 4 5 ++ refused 4 14 ++ refused 4 5 ++ refused 4 5)
     ∷ each (λ n. seen (check_envelope (stuffed 1 2 n 1 1))) (0 ∷ 3 ∷ 9 ∷ 255 ∷ [])
-    gives (refused BeyondLimit 14 ++ refused BeyondLimit 45 ++ refused BeyondLimit 14 ++ refused BeyondLimit 14)
-    ∷ each (λ n. seen (check_envelope (stuffed 1 2 2 n 1))) (2 ∷ 13 ∷ 255 ∷ []) gives (refused BeyondLimit 52 ++ refused BeyondLimit 45 ++ refused BeyondLimit 45)
-    ∷ each (λ n. seen (check_envelope (stuffed 1 2 2 1 n))) (0 ∷ 2 ∷ 17 ∷ []) gives (refused BeyondLimit 51 ++ refused BeyondLimit 54 ++ refused BeyondLimit 51)
+    gives (refused 4 14 ++ refused 4 45 ++ refused 4 14 ++ refused 4 14)
+    ∷ each (λ n. seen (check_envelope (stuffed 1 2 2 n 1))) (2 ∷ 13 ∷ 255 ∷ []) gives (refused 4 52 ++ refused 4 45 ++ refused 4 45)
+    ∷ each (λ n. seen (check_envelope (stuffed 1 2 2 1 n))) (0 ∷ 2 ∷ 17 ∷ []) gives (refused 4 51 ++ refused 4 54 ++ refused 4 51)
     -- the envelope first, then the program
-    ∷ seen (read_program (stuffed 2 2 2 1 1) []) gives refused WrongVersion 3
-    ∷ seen (read_program (stuffed 1 2 2 1 1) []) gives refused EndsInside 0
+    ∷ seen (read_program (stuffed 2 2 2 1 1) []) gives refused 3 3
+    ∷ seen (read_program (stuffed 1 2 2 1 1) []) gives refused 1 0
     ∷ each (λ n. seen (check_program small_asked (record { site = 2; count = n; steps = replicate 156 (step (place 0 0) (place 1 0)) }))) (0 ∷ 156 ∷ 157 ∷ 255 ∷ [])
-    gives (taken 7 ++ taken 631 ++ refused BeyondLimit 6 ++ refused BeyondLimit 6)
-    ∷ seen (check_program small_asked (program_with 0 [])) gives refused BeyondLimit 5
-    ∷ seen (check_program small_asked (program_with 1 (step (place 0 0) (place 1 0) ∷ step (place 0 1) (place 1 0) ∷ []))) gives refused NotLegal 1
-    ∷ seen (check_program small_asked (program_with 1 (step (place 0 2) (place 1 0) ∷ []))) gives refused BeyondLimit 8
+    gives (taken 7 ++ taken 631 ++ refused 4 6 ++ refused 4 6)
+    ∷ seen (check_program small_asked (program_with 0 [])) gives refused 4 5
+    ∷ seen (check_program small_asked (program_with 1 (step (place 0 0) (place 1 0) ∷ step (place 0 1) (place 1 0) ∷ []))) gives refused 8 1
+    ∷ seen (check_program small_asked (program_with 1 (step (place 0 2) (place 1 0) ∷ []))) gives refused 4 8
     ∷ []
 
 -- ---- same day: COUPON (number, date), WEIGH (number, date, loss), and their rows

@@ -297,7 +297,7 @@ module _ (q : Papers) (x : End) (store m : List ℕ) (relation : ℕ) where
       rows_again a = stores_bad AlreadyTaken 0 (rw (ours, ← sound, t, a))
 
       module _ (a : get_or x.arrived relation false ≡ false) where
-        rows_short : length store < x.used + length m → Stores (Err (refusal TooShort 0)) x store
+        pub rows_short : length store < x.used + length m → Stores (Err (refusal TooShort 0)) x store
         unfolding rows_taken
         rows_short o = stores_bad TooShort 0 (rw (ours, ← sound, t, a, lt-ltb (length store) (x.used + length m) o))
 

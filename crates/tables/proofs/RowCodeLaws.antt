@@ -22,7 +22,7 @@ take_rest : (l : List ℕ) (n : ℕ) → slice_range l n (length l) ≡ drop n l
 take_rest l n = take_all (length l - n) (drop n l) (omega (arith, length-drop n l))
 
 -- a column past the last reads as 0
-word_outside : (x : Extent) (words : List ℕ) (i c : ℕ) → i < x.rows → x.columns ≤ c → 0 ≡ word_in (get_or (rows_over x words) i []) c
+pub word_outside : (x : Extent) (words : List ℕ) (i c : ℕ) → i < x.rows → x.columns ≤ c → 0 ≡ word_in (get_or (rows_over x words) i []) c
 unfolding rows_over
 word_outside x words i c h k =
     sym
@@ -30,7 +30,7 @@ word_outside x words i c h k =
     ∙ used_outside (drop (i * x.columns) (drop x.word words)) x.columns c 0 k)
 
 module _ (x : Extent) (words : List ℕ) (i c : ℕ) where
-  word_no_row : x.rows ≤ i → 0 ≡ word_over x words i c
+  pub word_no_row : x.rows ≤ i → 0 ≡ word_over x words i c
   word_no_row h =
       let l : length (rows_over x words) ≤ i = omega (arith, rows_over_lem x words) in
       sym (ap (λ (row : Row). word_in row c) (get_or-eq_default (rows_over x words) [] l))
@@ -40,11 +40,14 @@ module _ (x : Extent) (words : List ℕ) (i c : ℕ) where
   word_beyond (inr (h, k)) = word_outside x words i c h k
 
   module _ (h : i < x.rows) (k : c < x.columns) where
-    word_past : length words ≤ x.word + i * x.columns + c → 0 ≡ word_over x words i c
+    pub word_past : length words ≤ x.word + i * x.columns + c → 0 ≡ word_over x words i c
     word_past l = sym (get_or-eq_default words 0 l) ∙ word_over_lem x words i c h k
 
-    pub word_no_word : length words < x.word → 0 ≡ word_over x words i c
+    pub word_no_word : length words ≤ x.word → 0 ≡ word_over x words i c
     word_no_word l = word_past (omega arith)
+
+    pub word_before : length words < x.word → 0 ≡ word_over x words i c
+    word_before l = word_no_word (omega arith)
 
     -- a place that is too large for a number of 64 bits ends at the greatest, where no slice has a word
     pub word_found : (left : List ℕ) → left ≡ slice_range words x.word (length words) → length words < 2 ^ 64 → (at : ℕ)
@@ -67,8 +70,11 @@ module _ (x : Extent) (marks : List ℕ) (i : ℕ) where
   unfolding marks_over
   mark_no_row h = ap is_kept (sym (used_outside (drop x.mark marks) x.rows i 0 h))
 
-  pub mark_past : i < x.rows → length marks < x.mark → false ≡ kept_over x marks i
-  mark_past h l = ap is_kept (sym (get_or-eq_default marks 0 (omega arith)) ∙ mark_over x marks i h)
+  pub mark_past : i < x.rows → length marks ≤ x.mark + i → false ≡ kept_over x marks i
+  mark_past h l = ap is_kept (sym (get_or-eq_default marks 0 l) ∙ mark_over x marks i h)
+
+  pub mark_before : i < x.rows → length marks < x.mark → false ≡ kept_over x marks i
+  mark_before h l = mark_past h (omega arith)
 
   pub mark_found : i < x.rows → (left : List ℕ) → left ≡ slice_range marks x.mark (length marks) → (m : ℕ) → m ≡ get_or left i 0
       → is_kept m ≡ kept_over x marks i

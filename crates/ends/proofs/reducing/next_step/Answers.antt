@@ -8,7 +8,8 @@ pub loop-i-init : goal.loop-i-init
 loop-i-init c = search (passing_start, rules)
 
 pub returns-then-left-eq0 : goal.returns-then-left-eq0
-returns-then-left-eq0 c = search (next_found, rules)
+returns-then-left-eq0 c =
+    next_found _ _ _ _ c.loop-i.i c.loop-i.left c.loop-i.invariant (omega arith) c.if-steps-i.true c.if-left-eq0.true
 
 pub loop-i-preserved : goal.loop-i-preserved
 loop-i-preserved c =

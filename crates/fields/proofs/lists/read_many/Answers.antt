@@ -6,7 +6,7 @@ use Rattle.fields.proofs.ListCodeLaws.{many_more, many_bad, many_done}
 use Rattle.fields.proofs.lists.read_many.Goals as goal
 
 pub loop-i-init : goal.loop-i-init
-loop-i-init g c = (omega arith, λ item h. filling_start _ _ (λ _. item) _ _ c.requires.count)
+loop-i-init g c = (omega arith, λ item h. filling_start _ _ (λ _. item) _ _ (omega arith))
 
 pub returns-in_err-value : goal.returns-in_err-value
 returns-in_err-value g c =

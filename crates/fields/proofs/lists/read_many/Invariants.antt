@@ -1,4 +1,4 @@
-use Prim.Native.Nat.{ℕ, ◌<◌, ◌^◌}
+use Prim.Native.Nat.{ℕ, ◌<◌, ◌^◌, min}
 use Rattle.ground.specs.Outcome.{Outcome}
 use Rattle.ground.proofs.FillingLaws.{Filling}
 use Rattle.fields.specs.Lists.{ReadsBy}
@@ -7,4 +7,5 @@ use Rattle.fields.proofs.lists.read_many.Given as goal
 abbrev pub invariant-loop-i : goal.invariant-loop-i
 invariant-loop-i g l =
     (l.end < 2 ^ 64)
-    × ((item : ℕ → Outcome _) → ReadsBy (goal.F-post g l.fn.read) item → Filling g.row.N l.fn.empty (λ _. item) l.fn.n l.fn.at l.i l.end l.out)
+    × ((item : ℕ → Outcome _) → ReadsBy (goal.F-post g l.fn.read) item
+    → Filling g.row.N l.fn.empty (λ _. item) (min l.fn.n g.row.N) l.fn.at l.i l.end l.out)

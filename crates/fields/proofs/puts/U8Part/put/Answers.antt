@@ -1,5 +1,6 @@
-use Rattle.fields.proofs.PartLaws.{one_put}
+use native.Mathlib.Omega.{arith}
+use Rattle.fields.proofs.PartLaws.{one_put, ended}
 use Rattle.fields.proofs.puts.U8Part.put.Goals as goal
 
 pub returns : goal.returns
-returns c = one_put _ _ _ _ c.put_number.ensures
+returns c = ended _ _ _ _ _ _ _ (one_put _ _ _ _ c.put_number.ensures) (omega arith)
