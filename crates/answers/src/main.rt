@@ -30,7 +30,8 @@ const WEIGHTS: [u32; 14] = [0, 4, 11, 20, 5, 12, 20, 7, 12, 20, 7, 14, 22, 3];
 fn print_words(rt: &impl Print, what: &str, words: &[u32]) -> io::Result<()> {
     print!(rt; "{what}")?;
     for word in words {
-        print!(rt; " {word}")?;
+        print!(rt; " ")?;
+        print!(rt; "{word}")?;
     }
     println!(rt;)
 }

@@ -6,38 +6,52 @@ ghost use Rattle.fields.specs.Puts.{fitted, written_of, written_in, Puts};
 ghost use Rattle.estimates.specs.Estimate.{line_steps};
 ghost use Rattle.boundary.specs.Answers.{written_number};
 ghost use Rattle.boundary.specs.Planning.{program_of, plan_from, pair_of, line_words, estimate_words, estimate_from};
+ghost use Rattle.papers.specs.Programs.{program_written, program_written_in};
 
 use crate::answers::answer_of;
+use contents::envelope::Envelope;
 use estimates::lines::{Estimate, Line};
 use ground::refusals::{Reason, Refusal};
 use papers::programs::Program;
 use paths::steps::Step;
 use planner::plans::Plan;
+use std::array;
 
-// The steps of a plan's lines.
-fn line_steps(lines: [Line; 156]) -> [Step; 156]
-    ensures { result ≡ line_steps lines }
+// The steps of a plan's lines. They are lent, as the plan is: its lines are most of the stack that the header states, and are held once.
+fn line_steps(lines: &[Line]) -> [Step; 156]
+    requires { length lines.now ≡ 156 }
+    ensures { result ≡ line_steps lines.now }
 {
-    lines.map(|line| line.step)
+    array::from_fn(|i| lines[i].step)
 }
 
 // The program handed out.
-fn program_of(plan: Plan) -> Program
-    ensures { result ≡ program_of plan }
+fn program_of(plan: &Plan) -> Program
+    ensures { result ≡ program_of plan.now }
 {
     Program {
         site: plan.site,
         count: plan.count,
-        steps: line_steps(plan.lines),
+        steps: line_steps(&plan.lines),
     }
+}
+
+// The program of a plan, written. Not inlined, so that what writing needs of the stack is not there while planning.
+#[inline(never)]
+fn write_planned(own: Envelope, plan: &Plan, program: &mut [u8]) -> Result<usize, Refusal>
+    ensures { (result ≡ program_written own (program_of plan.now) program.old) × (program.new ≡ program_written_in own (program_of plan.now) program.old) }
+{
+    papers::programs::write_program(own, program_of(plan), program)
 }
 
 fn write_plan(envelope: &[u8], program: &mut [u8]) -> Result<usize, Refusal>
     ensures { (result ≡ written_of (plan_from envelope.now (length program.old))) × (program.new ≡ written_in program.old (plan_from envelope.now (length program.old))) }
 {
     let own = envelopes::reading::read_envelope(envelope)?;
-    let plan = planner::planner::plan_paper(envelope)?;
-    papers::programs::write_program(own, program_of(plan), program)
+    match &planner::planner::plan_paper(envelope) {
+        Ok(plan) => write_planned(own, plan, program),
+        Err(refusal) => Err(*refusal),
+    }
 }
 
 // 3: the program for an envelope, at the front of program. Taken, the bytes written.

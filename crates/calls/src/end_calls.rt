@@ -1,9 +1,10 @@
-// The calls on ends: the arguments read in order, the call, its outcome.
+// The calls on ends: the arguments read in order, the call, its outcome. None is inlined, as in paper_calls.
 use crate::input::{MOST, Stop, next_number, next_slice};
 use crate::output::{put_answer, put_slice};
 use boundary::stations::{legestran_answer_at_end, legestran_open, legestran_receive};
 use std::io::{Read, Write};
 
+#[inline(never)]
 pub(crate) fn open<R: Read, W: Write>(script: &mut R, outcomes: &mut W) -> Result<(), Stop> {
     let mut envelope = [0u8; MOST];
     let mut program = [0u8; MOST];
@@ -25,6 +26,7 @@ pub(crate) fn open<R: Read, W: Write>(script: &mut R, outcomes: &mut W) -> Resul
 }
 
 // A value message or a row message, by the call that makes it: the number is that of the step, or of the relation.
+#[inline(never)]
 pub(crate) fn make<
     R: Read,
     W: Write,
@@ -51,6 +53,7 @@ pub(crate) fn make<
     Ok(())
 }
 
+#[inline(never)]
 pub(crate) fn receive<R: Read, W: Write>(script: &mut R, outcomes: &mut W) -> Result<(), Stop> {
     let mut envelope = [0u8; MOST];
     let mut program = [0u8; MOST];
@@ -74,6 +77,7 @@ pub(crate) fn receive<R: Read, W: Write>(script: &mut R, outcomes: &mut W) -> Re
     Ok(())
 }
 
+#[inline(never)]
 pub(crate) fn answer_at_end<R: Read, W: Write>(
     script: &mut R,
     outcomes: &mut W,

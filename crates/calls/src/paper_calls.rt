@@ -1,4 +1,5 @@
-// The calls on papers and on tables of every relation: the arguments read in order, the call, its outcome.
+// The calls on papers and on tables of every relation: the arguments read in order, the call, its outcome. None is inlined, so that the
+// stack holds the buffers of the one call that is performed, and none before it.
 use crate::input::{MOST, Stop, next_slice};
 use crate::output::{put_answer, put_slice};
 use boundary::given::{legestran_read_envelope, legestran_read_program};
@@ -6,6 +7,7 @@ use boundary::planning::{legestran_estimate, legestran_plan};
 use boundary::running::{legestran_answer, legestran_run_in_one_place};
 use std::io::{Read, Write};
 
+#[inline(never)]
 pub(crate) fn read_envelope<R: Read, W: Write>(
     script: &mut R,
     outcomes: &mut W,
@@ -16,6 +18,7 @@ pub(crate) fn read_envelope<R: Read, W: Write>(
     Ok(())
 }
 
+#[inline(never)]
 pub(crate) fn read_program<R: Read, W: Write>(
     script: &mut R,
     outcomes: &mut W,
@@ -28,6 +31,7 @@ pub(crate) fn read_program<R: Read, W: Write>(
     Ok(())
 }
 
+#[inline(never)]
 pub(crate) fn plan<R: Read, W: Write>(script: &mut R, outcomes: &mut W) -> Result<(), Stop> {
     let mut envelope = [0u8; MOST];
     let mut program = [0u8; MOST];
@@ -38,6 +42,7 @@ pub(crate) fn plan<R: Read, W: Write>(script: &mut R, outcomes: &mut W) -> Resul
     Ok(())
 }
 
+#[inline(never)]
 pub(crate) fn run_in_one_place<R: Read, W: Write>(
     script: &mut R,
     outcomes: &mut W,
@@ -56,6 +61,7 @@ pub(crate) fn run_in_one_place<R: Read, W: Write>(
     Ok(())
 }
 
+#[inline(never)]
 pub(crate) fn answer<R: Read, W: Write>(script: &mut R, outcomes: &mut W) -> Result<(), Stop> {
     let mut envelope = [0u8; MOST];
     let mut tables = [0u32; MOST];
@@ -68,6 +74,7 @@ pub(crate) fn answer<R: Read, W: Write>(script: &mut R, outcomes: &mut W) -> Res
     Ok(())
 }
 
+#[inline(never)]
 pub(crate) fn estimate<R: Read, W: Write>(script: &mut R, outcomes: &mut W) -> Result<(), Stop> {
     let mut envelope = [0u8; MOST];
     let mut program = [0u8; MOST];

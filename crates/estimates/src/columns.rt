@@ -7,15 +7,15 @@ use entries::places::Place;
 use entries::relations::Column;
 
 #[tactic(auto, unfolding(crate::specs::Columns::column_of))]
-pub(crate) fn column_of(envelope: Envelope, place: Place) -> Column
-    ensures { result ≡ column_of envelope place }
+pub(crate) fn column_of(envelope: &Envelope, place: Place) -> Column
+    ensures { result ≡ column_of envelope.now place }
 {
     entries::places::named_column(envelope.relations_in_use(), place)
 }
 
 #[tactic(auto, unfolding(crate::specs::Columns::domain_size))]
-pub(crate) fn domain_size(envelope: Envelope, place: Place) -> u32
-    ensures { result ≡ domain_size envelope place }
+pub(crate) fn domain_size(envelope: &Envelope, place: Place) -> u32
+    ensures { result ≡ domain_size envelope.now place }
 {
     let column = column_of(envelope, place);
     envelope
@@ -37,7 +37,7 @@ pub(crate) fn width_of(envelope: Envelope, relation: u8) -> u64
             relation: relation,
             column: *number,
         };
-        let column = column_of(envelope, place);
+        let column = column_of(&envelope, place);
         total += column.width as u64;
     }
     total

@@ -54,7 +54,7 @@ pub(crate) fn step_cost(costs: Costs, envelope: Envelope, profile: Profile, step
 {
     let left = step.left;
     let right = step.right;
-    let column = crate::columns::column_of(envelope, right);
+    let column = crate::columns::column_of(&envelope, right);
     let width = column.width as u64;
     let count = profile.count_at(right);
     let sender = contents::sites::site_of(envelope, right.relation);
@@ -95,6 +95,6 @@ pub(crate) fn benefit(envelope: Envelope, profile: Profile, step: Step) -> u64
     let left = step.left;
     let width = profile.width_at(left.relation);
     let before = profile.rows_at(left.relation);
-    let after = profile.rows_after(envelope, step);
+    let after = profile.rows_after(&envelope, step);
     width * (before - after)
 }

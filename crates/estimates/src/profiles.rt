@@ -39,7 +39,7 @@ fn given_count(envelope: Envelope, k: usize) -> u64
         relation: (k / 8) as u8,
         column: (k % 8) as u8,
     };
-    let column = crate::columns::column_of(envelope, place);
+    let column = crate::columns::column_of(&envelope, place);
     column.distinct as u64
 }
 
@@ -75,22 +75,22 @@ fn with_rows(all: [u64; 8], relation: u8, rows: u64) -> [u64; 8]
 
 impl Profile {
     // The rows of a relation; 0 where there is no such relation.
-    pub(crate) fn rows_at(self, relation: u8) -> u64
-        ensures { result ≡ estimated_rows self relation }
+    pub(crate) fn rows_at(&self, relation: u8) -> u64
+        ensures { result ≡ estimated_rows self.now relation }
     {
         number_at(&self.rows, relation as usize)
     }
 
     // The width of a relation; 0 where there is no such relation.
-    pub(crate) fn width_at(self, relation: u8) -> u64
-        ensures { result ≡ width_at self relation }
+    pub(crate) fn width_at(&self, relation: u8) -> u64
+        ensures { result ≡ width_at self.now relation }
     {
         number_at(&self.widths, relation as usize)
     }
 
     // The distinct count of a column; 0 where there is no such place in a profile.
-    pub(crate) fn count_at(self, place: Place) -> u64
-        ensures { result ≡ distinct_of self place }
+    pub(crate) fn count_at(&self, place: Place) -> u64
+        ensures { result ≡ distinct_of self.now place }
     {
         number_at(
             &self.counts,
@@ -99,19 +99,18 @@ impl Profile {
     }
 
     // The count in place k of a profile that is shrunk.
-    fn count_left(self, place: Place, rows: u64, count: u64, k: usize) -> u64
-        requires { ((k < 64) × (rows ≤ 1000000)) × Low self.counts }
-        ensures { result ≡ slice_index (shrunk self place rows count).counts k }
+    fn count_left(&self, place: Place, rows: u64, count: u64, k: usize) -> u64
+        requires { ((k < 64) × (rows ≤ 1000000)) × Low self.now.counts }
+        ensures { result ≡ slice_index (shrunk self.now place rows count).counts k }
     {
-        let counts = self.counts;
         if k / 8 != place.relation as usize {
-            return counts[k];
+            return self.counts[k];
         }
         if k % 8 == place.column as usize {
             return count;
         }
         let before = self.rows_at(place.relation);
-        crate::division::short(counts[k], before, rows)
+        crate::division::short(self.counts[k], before, rows)
     }
 
     // A relation with other rows, one of its columns with another count; each other column of it by Y.
@@ -127,9 +126,9 @@ impl Profile {
     }
 
     // What a step leaves of a number of its left relation.
-    fn remaining(self, envelope: Envelope, step: Step, n: u64) -> u64
-        requires { (n ≤ 1000000) × Low self.counts }
-        ensures { result ≡ remaining envelope self step n }
+    fn remaining(&self, envelope: &Envelope, step: Step, n: u64) -> u64
+        requires { (n ≤ 1000000) × Low self.now.counts }
+        ensures { result ≡ remaining envelope.now self.now step n }
     {
         let count = self.count_at(step.right);
         let size = crate::columns::domain_size(envelope, step.left);
@@ -137,9 +136,9 @@ impl Profile {
     }
 
     // The rows of its left relation that a step leaves.
-    pub(crate) fn rows_after(self, envelope: Envelope, step: Step) -> u64
-        requires { Low self.rows × Low self.counts }
-        ensures { result ≡ rows_after envelope self step }
+    pub(crate) fn rows_after(&self, envelope: &Envelope, step: Step) -> u64
+        requires { Low self.now.rows × Low self.now.counts }
+        ensures { result ≡ rows_after envelope.now self.now step }
     {
         let left = step.left;
         let rows = self.rows_at(left.relation);
@@ -147,9 +146,9 @@ impl Profile {
     }
 
     // The count of its left column that a step leaves.
-    fn count_after(self, envelope: Envelope, step: Step) -> u64
-        requires { Low self.counts }
-        ensures { result ≡ count_after envelope self step }
+    fn count_after(&self, envelope: &Envelope, step: Step) -> u64
+        requires { Low self.now.counts }
+        ensures { result ≡ count_after envelope.now self.now step }
     {
         let count = self.count_at(step.left);
         self.remaining(envelope, step, count)
@@ -174,8 +173,8 @@ impl Profile {
         requires { Low self.rows × Low self.counts × (rows_after envelope self step ≤ 1000000) }
         ensures { result ≡ after_step envelope self step }
     {
-        let rows = self.rows_after(envelope, step);
-        let count = self.count_after(envelope, step);
+        let rows = self.rows_after(&envelope, step);
+        let count = self.count_after(&envelope, step);
         self.shrunk(step.left, rows, count)
     }
 }

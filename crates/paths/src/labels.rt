@@ -49,9 +49,11 @@ fn first_that_selects(
     clauses.iter().position(|clause| kind_selects(relations, clause.kind, domain, value))
 }
 
-fn constant_number(envelope: Envelope, domain: u8, value: u32) -> usize
-    ensures { result ≡ number_of envelope (constant domain value) }
+fn constant_number(envelope: &Envelope, domain: u8, value: u32) -> usize
+    ensures { result ≡ number_of envelope.now (constant domain value) }
 {
+    // lent whole, so that their number is known
+    let _twelve: &[Clause] = &envelope.clauses;
     let clauses = envelope.clauses_in_use();
     let first = first_that_selects(&envelope.relations, clauses, domain, value);
     64 + first.unwrap_or(clauses.len())
@@ -73,7 +75,12 @@ fn renamed(label: u8, a: u8, b: u8) -> u8
 fn relabelled(labels: [u8; 76], a: u8, b: u8) -> [u8; 76]
     ensures { result ≡ relabel a b labels }
 {
-    labels.map(|label| renamed(label, a, b))
+    let mut out = labels;
+    // in place: what `map` makes is copied, at each clause again
+    for i in 0..76 {
+        out[i] = renamed(out[i], a, b);
+    }
+    out
 }
 
 // The labels of two numbers made one.
@@ -86,8 +93,8 @@ fn made_one(labels: [u8; 76], x: usize, y: usize) -> [u8; 76]
 
 // The labels of the two ends of a clause's edge made one.
 #[tactic(auto, unfolding(crate::specs::Labels::number_of))]
-fn along(envelope: Envelope, labels: [u8; 76], kind: ClauseKind) -> [u8; 76]
-    ensures { result ≡ united (number_of envelope (edge_of envelope.relations kind).from) (number_of envelope (edge_of envelope.relations kind).to) labels }
+fn along(envelope: &Envelope, labels: [u8; 76], kind: ClauseKind) -> [u8; 76]
+    ensures { result ≡ united (number_of envelope.now (edge_of envelope.now.relations kind).from) (number_of envelope.now (edge_of envelope.now.relations kind).to) labels }
 {
     match kind {
         ClauseKind::Selection { place, value } => {
@@ -102,8 +109,8 @@ fn along(envelope: Envelope, labels: [u8; 76], kind: ClauseKind) -> [u8; 76]
 }
 
 // The labels by some clauses, edge by edge, the last first; at the start each number has its own.
-fn by_clauses(envelope: Envelope, clauses: &[Clause]) -> [u8; 76]
-    ensures { result ≡ labelled envelope (map (λ (c : Clause). edge_of envelope.relations c.kind) clauses.now) }
+fn by_clauses(envelope: &Envelope, clauses: &[Clause]) -> [u8; 76]
+    ensures { result ≡ labelled envelope.now (map (λ (c : Clause). edge_of envelope.now.relations c.kind) clauses.now) }
 {
     let mut labels: [u8; 76] = std::array::from_fn(|number| number as u8);
     // by number, since each turn is proved of what stands behind it
@@ -120,7 +127,7 @@ pub fn labels_of(envelope: Envelope) -> Labels
     ensures { result ≡ record { of = labels_of envelope } }
 {
     Labels {
-        of: by_clauses(envelope, envelope.clauses_in_use()),
+        of: by_clauses(&envelope, envelope.clauses_in_use()),
     }
 }
 
@@ -136,13 +143,13 @@ pub(crate) fn columns_meet(labels: Labels, a: Place, b: Place) -> bool
 // Whether a column and a constant have one label.
 #[tactic(auto, unfolding(crate::specs::Labels::by_labels, crate::specs::Labels::number_of))]
 pub(crate) fn constant_meets(
-    envelope: Envelope,
+    envelope: &Envelope,
     labels: Labels,
     a: Place,
     domain: u8,
     value: u32,
 ) -> bool
-    ensures { result ≡ by_labels labels.of envelope (column a) (constant domain value) }
+    ensures { result ≡ by_labels labels.of envelope.now (column a) (constant domain value) }
 {
     let of = labels.of;
     let number = constant_number(envelope, domain, value);

@@ -16,6 +16,7 @@ use Rattle.estimates.specs.Estimate.{kind_of, estimated}
 use Rattle.planner.specs.Choice.{Handed, greedy, site_among, drops, fallback}
 use Rattle.estimates.specs.declared.profiles.Profile.{Profile}
 use Rattle.estimates.specs.declared.costs.Costs.{Costs}
+use Rattle.estimates.specs.declared.lines.Estimate.{Estimate}
 use Rattle.planner.specs.declared.plans.Plan.{Plan}
 
 -- ---- points 2 to 5; point 1, local operations, is local_profile of estimates
@@ -59,6 +60,11 @@ plan_for k e =
       total = x.total;
       local = assembly_at k e (local_profile e) (site_for k e (local_profile e));
     }
+
+-- an estimate at its site, beside the total of local operations alone
+abbrev pub told : Estimate → ℕ → ℕ → Plan
+told x site alone =
+    record { site = site; count = x.count; lines = x.lines; assembly = x.assembly; total = x.total; local = alone }
 
 -- ---- of an envelope that is read, or a struct that is checked, first
 

@@ -23,7 +23,8 @@ pub(crate) fn print_numbers<T: Display>(
 ) -> io::Result<()> {
     print!(rt; "{what}")?;
     for number in numbers {
-        print!(rt; " {number}")?;
+        print!(rt; " ")?;
+        print!(rt; "{number}")?;
     }
     println!(rt;)
 }

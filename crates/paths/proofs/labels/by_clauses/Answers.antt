@@ -7,9 +7,9 @@ use Rattle.paths.proofs.labels.by_clauses.Goals as goal
 
 pub loop-i-init : goal.loop-i-init
 loop-i-init c = let a = c.args in
-    labelling_start a.envelope a.clauses.now _ _ (omega arith)
+    labelling_start a.envelope.now a.clauses.now _ _ (omega arith)
     (made_is _ (λ k. k) _ 76 (λ i y q h k. search rules) _ c.from_fn-labels.ensures.items)
 
 pub loop-i-preserved : goal.loop-i-preserved
 loop-i-preserved c = let a = c.args in
-    labelling_more a.envelope a.clauses.now _ _ no_clause c.loop-i.invariant c.loop-i-test.true (omega arith) _ (search rules)
+    labelling_more a.envelope.now a.clauses.now _ _ no_clause c.loop-i.invariant c.loop-i-test.true (omega arith) _ (search rules)

@@ -7,7 +7,7 @@ pub overflow_add-result : goal.overflow_add-result
 overflow_add-result c = let a = c.args in
     omega (
       arith,
-      constant_few a.envelope a.domain a.value _ c.clauses_in_use-clauses.ensures _ c.first_that_selects-first.ensures _ c.unwrap_or.ensures,
+      constant_few a.envelope.now a.domain a.value _ c.clauses_in_use-clauses.ensures _ c.first_that_selects-first.ensures _ c.unwrap_or.ensures,
     )
 
 pub returns : goal.returns

@@ -1,6 +1,9 @@
-use Rattle.std.proofs.Common.{rules, arith}
-use Rattle.station.proofs.TakingCodeLaws.{appended}
+use Rattle.std.proofs.Common.{◌≡◌, arith}
+use Prim.Native.Nat.{◌+◌}
+use Rattle.ground.proofs.PuttingLaws.{copying_more}
 use Rattle.station.proofs.receiving.append.Goals as goal
 
-pub returns : goal.returns
-returns c = appended _ _ _ _ _ (search rules) (omega arith) c.requires
+pub loop-i-preserved : goal.loop-i-preserved
+loop-i-preserved c =
+    let next : c.args.used + c.loop-i.i + 1 ≡ c.args.used + (c.loop-i.i + 1) = omega arith in
+    rw next at (copying_more _ _ _ _ _ _ _ c.loop-i.invariant 0 c.loop-i-test.true)

@@ -3,4 +3,4 @@ use Rattle.estimates.proofs.profiles.Profile.count_after.Goals as goal
 
 pub returns : goal.returns
 returns c = let a = c.args in
-    count_after_is a.envelope a.self a.step _ _ c.count_at-count.ensures c.remaining.ensures
+    count_after_is a.envelope.now a.self.now a.step _ _ c.count_at-count.ensures c.remaining.ensures
