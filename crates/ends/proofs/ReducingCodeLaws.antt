@@ -92,25 +92,71 @@ module _ (steps : List Step) (r skip n : ℕ) where
   abbrev end : ℕ
   end = min n (length steps)
 
-  -- what the search answers: the step behind so many, which is what the fold over the steps finds
+  -- what the search answers
   abbrev Next : Option ℕ → Type 0
-  Next x =
-      (x ≡ pick (ltb skip (length (reducing steps r n))) (Some (get_or (reducing steps r n) skip 0)) None)
-      × (x ≡ sought_next steps r skip n)
+  Next x = x ≡ pick (ltb skip (length (reducing steps r n))) (Some (get_or (reducing steps r n) skip 0)) None
+
+  pub record Passing (i left : ℕ) : Type 0 where
+    pub few : left ≤ skip
+    pub counted : Counting f end i (skip - left)
+
+  pub passing_start : Passing 0 skip
+  passing_start = let z : skip - skip ≡ 0 = omega arith in record { few = omega arith; counted = rw z (counting_start f end) }
+
+  module _ (i left : ℕ) (g : Passing i left) where
+    module _ (h : i < end) where
+      pub passing_other : ((get_or steps i no_step).left.relation ≡ r → ⊥) → Passing (i + 1) left
+      unfolding reduces
+      passing_other t =
+          record { few = g.few; counted = counting_no f end i (skip - left) g.counted h (ne_eqb (get_or steps i no_step).left.relation r t) }
+
+      module _ (t : (get_or steps i no_step).left.relation ≡ r) where
+        own : f i ≡ true
+        unfolding reduces
+        own = eq-eqb (get_or steps i no_step).left.relation r t
+
+        pub passing_own : (left ≡ 0 → ⊥) → Passing (i + 1) (left - 1)
+        passing_own z =
+            let s : skip - left + 1 ≡ skip - (left - 1) = omega (arith, g.few) in
+            record { few = omega (arith, g.few); counted = rw s at (counting_yes f end i (skip - left) g.counted h own) }
+
+        pub next_found : left ≡ 0 → Next (Some i)
+        unfolding reducing
+        next_found z =
+            let s : skip - left ≡ skip = omega arith in
+            let less : skip < length (filter f (below end)) = rw s at (counting_less f end i (skip - left) g.counted h own) in
+            let is : get_or (filter f (below end)) skip 0 ≡ i = rw s at (counting_found f end i (skip - left) g.counted h own) in
+            sym (rw (lt-ltb skip (length (filter f (below end))) less, is))
+
+    pub next_none : end ≤ i → Next None
+    unfolding reducing
+    next_none h =
+        let all : skip - left ≡ length (filter f (below end)) = counting_done f end i (skip - left) g.counted h in
+        let few : length (filter f (below end)) ≤ skip = omega arith in
+        sym (rw (le-ltb skip (length (filter f (below end))) few))
+
+  -- ---- and the fold over the steps: it seeks among those left what it seeks among all
+
+  -- what the search answers: the step behind so many, which is what the fold over the steps finds
+  abbrev Sought : Option ℕ → Type 0
+  Sought x = Next x × (x ≡ sought_next steps r skip n)
 
   -- the fold as it is at i
   abbrev now : ℕ → Search
   now left = search_for r left end
 
-  pub record Passing (i left : ℕ) : Type 0 where
+  pub record Following (i left : ℕ) : Type 0 where
     pub few : left ≤ skip
     pub counted : Counting f end i (skip - left)
     pub sought : sought_from (drop i steps) i (now left) ≡ sought_from steps 0 (now skip)
 
-  pub passing_start : Passing 0 skip
-  passing_start = let z : skip - skip ≡ 0 = omega arith in record { few = omega arith; counted = rw z (counting_start f end); sought = refl }
+  pub following_start : Following 0 skip
+  following_start = record { few = passing_start.few; counted = passing_start.counted; sought = refl }
 
-  module _ (i left : ℕ) (g : Passing i left) where
+  module _ (i left : ℕ) (g : Following i left) where
+    passed : Passing i left
+    passed = record { few = g.few; counted = g.counted }
+
     module _ (h : i < end) where
       abbrev one : Step
       one = get_or steps i no_step
@@ -119,28 +165,16 @@ module _ (steps : List Step) (r skip n : ℕ) where
       on : (c : Search) → c ≡ seen_of (now left) one i → sought_from (drop (i + 1) steps) (i + 1) c ≡ sought_from steps 0 (now skip)
       on c e = ap (sought_from (drop (i + 1) steps) (i + 1)) e ∙ sym (sought_turn steps i (now left) (omega (arith, h))) ∙ g.sought
 
-      pub passing_other : (one.left.relation ≡ r → ⊥) → Passing (i + 1) left
-      unfolding reduces
-      passing_other t =
-          record {
-            few = g.few;
-            counted = counting_no f end i (skip - left) g.counted h (ne_eqb one.left.relation r t);
-            sought = on _ (seen_other (now left) one i refl h t);
-          }
+      pub following_other : (one.left.relation ≡ r → ⊥) → Following (i + 1) left
+      following_other t =
+          let p : Passing (i + 1) left = passing_other i left passed h t in
+          record { few = p.few; counted = p.counted; sought = on _ (seen_other (now left) one i refl h t) }
 
       module _ (t : one.left.relation ≡ r) where
-        own : f i ≡ true
-        unfolding reduces
-        own = eq-eqb one.left.relation r t
-
-        pub passing_own : (left ≡ 0 → ⊥) → Passing (i + 1) (left - 1)
-        passing_own z =
-            let s : skip - left + 1 ≡ skip - (left - 1) = omega (arith, g.few) in
-            record {
-              few = omega (arith, g.few);
-              counted = rw s at (counting_yes f end i (skip - left) g.counted h own);
-              sought = on _ (seen_past (now left) one i refl h t z);
-            }
+        pub following_own : (left ≡ 0 → ⊥) → Following (i + 1) (left - 1)
+        following_own z =
+            let p : Passing (i + 1) (left - 1) = passing_own i left passed h t z in
+            record { few = p.few; counted = p.counted; sought = on _ (seen_past (now left) one i refl h t z) }
 
         found_one : left ≡ 0 → Some i ≡ sought_next steps r skip n
         found_one z =
@@ -149,18 +183,10 @@ module _ (steps : List Step) (r skip n : ℕ) where
             sym (sought_done (drop (i + 1) steps) (i + 1) it refl) ∙ on it (seen_one (now left) one i refl h t z) in
             ap number_found is
 
-        pub next_found : left ≡ 0 → Next (Some i)
-        unfolding reducing
-        next_found z =
-            let s : skip - left ≡ skip = omega arith in
-            let less : skip < length (filter f (below end)) = rw s at (counting_less f end i (skip - left) g.counted h own) in
-            let is : get_or (filter f (below end)) skip 0 ≡ i = rw s at (counting_found f end i (skip - left) g.counted h own) in
-            (sym (rw (lt-ltb skip (length (filter f (below end))) less, is)), found_one z)
+        pub sought_found : left ≡ 0 → Sought (Some i)
+        sought_found z = (next_found i left passed h t z, found_one z)
 
-    pub next_none : end ≤ i → Next None
-    unfolding reducing
-    next_none h =
-        let all : skip - left ≡ length (filter f (below end)) = counting_done f end i (skip - left) g.counted h in
-        let few : length (filter f (below end)) ≤ skip = omega arith in
+    pub sought_none : end ≤ i → Sought None
+    sought_none h =
         let is : now left ≡ sought_from steps 0 (now skip) = sym (sought_past (drop i steps) i (now left) refl h) ∙ g.sought in
-        (sym (rw (le-ltb skip (length (filter f (below end))) few)), ap number_found is)
+        (next_none i left passed h, ap number_found is)
